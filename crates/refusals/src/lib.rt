@@ -1,0 +1,49 @@
+//! Why a call is refused. Every layer refuses by this one type: a variant for each reason, with the
+//! number and the detail that the user is told.
+ghost use mathlib.Core.Path.{_≡_};
+ghost use Rattle.refusals.specs.Refusals.{numberOf, detailOf};
+use std::fmt;
+
+#[derive(Clone, Copy, PartialEq, Eq, Debug)]
+pub enum Refusal {
+    /// Key bytes of another length than the key's. Holds the length.
+    KeyLength(usize),
+    /// A key byte with an even count of ones. Holds the index of the first, from 0.
+    KeyParity(usize),
+    /// A bundle whose three keys are the same.
+    SameKeys,
+}
+
+impl Refusal {
+    /// The number that names the reason.
+    pub fn number(self) -> u8
+        ensures { λ r. ⌜ r ≡ numberOf self ⌝ }
+    {
+        match self {
+            Refusal::KeyLength(_) => 1,
+            Refusal::KeyParity(_) => 2,
+            Refusal::SameKeys => 3,
+        }
+    }
+
+    /// The one number that goes with the reason.
+    pub fn detail(self) -> u64
+        ensures { λ r. ⌜ r ≡ detailOf self ⌝ }
+    {
+        match self {
+            Refusal::KeyLength(length) => length as u64,
+            Refusal::KeyParity(index) => index as u64,
+            Refusal::SameKeys => 0,
+        }
+    }
+}
+
+pub impl fmt::Display for Refusal as RefusalDisplay {
+    fn fmt<W: fmt::Write>(&self, f: &mut fmt::Formatter<W>) -> fmt::Result {
+        match *self {
+            Refusal::KeyLength(length) => write!(f, "a key cannot have {length} bytes"),
+            Refusal::KeyParity(index) => write!(f, "key byte {index} has an even count of ones"),
+            Refusal::SameKeys => write!(f, "the three keys of the bundle are the same"),
+        }
+    }
+}
