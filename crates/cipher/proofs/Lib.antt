@@ -1,1 +1,10 @@
 pub mod InRow
+pub mod Tests
+pub mod Filled
+pub mod Selects
+pub mod Feistel
+pub mod Boxes
+pub mod Rotations
+pub mod Linear
+pub mod Exchanges
+pub mod Combined

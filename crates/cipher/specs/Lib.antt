@@ -1,2 +1,12 @@
 pub mod Undoing
 pub mod Triples
+pub mod Words
+pub mod Tables
+pub mod Rounds
+pub mod KeySchedule
+pub mod Dea
+pub mod Functions
+pub mod Rows
+pub mod WorkedValues
+pub mod Exchanges
+pub mod Combined
