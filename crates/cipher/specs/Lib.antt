@@ -1,3 +1,4 @@
+pub mod Bytes
 pub mod Undoing
 pub mod Triples
 pub mod Words

@@ -1,4 +1,5 @@
 //! Block ciphers: what one means, the DEA by its published tables, and the triple of any three ciphers.
+pub mod bytes;
 pub mod dea;
 pub mod triple;
 

@@ -1,0 +1,32 @@
+//! Ciphers from loaded keys. A key is used up by it, and nothing is refused.
+ghost use mathlib.Core.Path.{_≡_};
+ghost use Rattle.cipher.specs.Dea.{dea as deaOf, dea-inverse, triple-dea, triple-dea-inverse};
+ghost use Rattle.cipher.specs.Functions.{forward-of, inverse-of, triple-forward-of, triple-inverse-of};
+use crate::KeyBundle;
+use crate::SingleKey;
+use cipher::dea::Dea;
+use cipher::triple::Triple;
+
+impl SingleKey {
+    /// Single DEA under this key.
+    pub fn into_cipher(self) -> Dea
+        ensures forward { λ r. ⌜ forward-of r ≡ deaOf (self .word) ⌝ }
+        ensures inverse { λ r. ⌜ inverse-of r ≡ dea-inverse (self .word) ⌝ }
+    {
+        Dea::new(self.word)
+    }
+}
+
+impl KeyBundle {
+    /// Triple DEA under these three keys.
+    pub fn into_cipher(self) -> Triple<Dea, Dea, Dea>
+        ensures forward { λ r. ⌜ triple-forward-of r ≡ triple-dea (self .first .word) (self .second .word) (self .third .word) ⌝ }
+        ensures inverse { λ r. ⌜ triple-inverse-of r ≡ triple-dea-inverse (self .first .word) (self .second .word) (self .third .word) ⌝ }
+    {
+        Triple::new(
+            self.first.into_cipher(),
+            self.second.into_cipher(),
+            self.third.into_cipher(),
+        )
+    }
+}
