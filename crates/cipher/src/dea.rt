@@ -6,6 +6,8 @@ mod rounds;
 mod schedule;
 mod substitution;
 mod tables;
+#[cfg(test)]
+mod tests;
 mod words;
 
 ghost use mathlib.Core.Path.{_≡_};

@@ -3,6 +3,8 @@ pub mod building;
 mod guard;
 pub mod loading;
 mod parity;
+#[cfg(test)]
+mod tests;
 
 ghost use mathlib.Core.Path.{_≡_};
 ghost use Rattle.keys.specs.Parity.{Odd-bytes};
