@@ -23,10 +23,9 @@ impl KeyBundle {
         ensures forward { λ r. ⌜ triple-forward-of r ≡ triple-dea (self .first .word) (self .second .word) (self .third .word) ⌝ }
         ensures inverse { λ r. ⌜ triple-inverse-of r ≡ triple-dea-inverse (self .first .word) (self .second .word) (self .third .word) ⌝ }
     {
-        Triple::new(
-            self.first.into_cipher(),
-            self.second.into_cipher(),
-            self.third.into_cipher(),
-        )
+        let first = self.first.into_cipher();
+        let second = self.second.into_cipher();
+        let third = self.third.into_cipher();
+        Triple::new(first, second, third)
     }
 }
