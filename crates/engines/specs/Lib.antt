@@ -1,0 +1,5 @@
+pub mod Depths
+pub mod Machines
+pub mod PlainEngines
+pub mod Tables
+pub mod Lines

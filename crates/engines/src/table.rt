@@ -1,0 +1,98 @@
+//! The functional blocks of a line, in one table.
+ghost use mathlib.Core.Path.{_≡_};
+ghost use mathlib.Core.List.{[], _∷_};
+ghost use lib.ListN.{set};
+ghost use Rattle.engines.specs.declared.table.BlockState.the-variants.{Idle};
+ghost use Rattle.engines.specs.Tables.{held, holding, place, state};
+use super::work::Work;
+use super::work::WorkDebug;
+use super::work::WorkPartialEq;
+
+/// One of the three functional blocks.
+#[derive(Clone, Copy, PartialEq, Eq, Debug)]
+pub enum Stage {
+    First,
+    Second,
+    Third,
+}
+
+/// A functional block is idle or holds one block, as its own work left it, with its direction.
+#[derive(Clone, Copy, PartialEq, Eq, Debug)]
+pub enum BlockState {
+    Idle,
+    Holding(Work),
+}
+
+impl BlockState {
+    /// One cycle: the block takes up what comes in and hands on what it held. With nothing coming in it falls idle.
+    pub fn turn(&mut self, event: Option<Work>) -> Option<Work>
+        ensures handed { λ r. ⌜ r ≡ held (now (self .entry)) ⌝ }
+        ensures after { λ _. ⌜ now (self .exit) ≡ holding event ⌝ }
+    {
+        match (*self, event) {
+            (BlockState::Idle, None) => None,
+            (BlockState::Idle, Some(work)) => {
+                *self = BlockState::Holding(work);
+                None
+            }
+            (BlockState::Holding(old), None) => {
+                *self = BlockState::Idle;
+                Some(old)
+            }
+            (BlockState::Holding(old), Some(work)) => {
+                *self = BlockState::Holding(work);
+                Some(old)
+            }
+        }
+    }
+
+    /// What the block holds.
+    pub fn work(self) -> Option<Work>
+        ensures { λ r. ⌜ r ≡ held self ⌝ }
+    {
+        match self {
+            BlockState::Idle => None,
+            BlockState::Holding(work) => Some(work),
+        }
+    }
+}
+
+/// Three functional blocks, of which one at a time is lent to be clocked.
+#[derive(Clone, Copy)]
+pub struct Table {
+    blocks: [BlockState; 3],
+}
+
+impl Table {
+    /// All idle.
+    pub fn new() -> Self
+        ensures { λ r. ⌜ r ≡ record { blocks = Idle ∷ Idle ∷ Idle ∷ [] } ⌝ }
+    {
+        Table {
+            blocks: [BlockState::Idle; 3],
+        }
+    }
+
+    /// What one of them holds.
+    pub fn state(&self, stage: Stage) -> BlockState
+        ensures { λ r. ⌜ r ≡ state (now (self .entry) .blocks) stage ⌝ }
+    {
+        match stage {
+            Stage::First => self.blocks[0],
+            Stage::Second => self.blocks[1],
+            Stage::Third => self.blocks[2],
+        }
+    }
+
+    /// One of them takes its turn, and its neighbours stay as they are.
+    pub fn turn(&mut self, stage: Stage, event: Option<Work>) -> Option<Work>
+        ensures handed { λ r. ⌜ r ≡ held (state (now (self .entry) .blocks) stage) ⌝ }
+        ensures after { λ _. ⌜ now (self .exit) ≡ record { blocks = set (now (self .entry) .blocks) (place stage) (holding event) } ⌝ }
+    {
+        match stage {
+            Stage::First => self.blocks[0].turn(event),
+            Stage::Second => self.blocks[1].turn(event),
+            Stage::Third => self.blocks[2].turn(event),
+        }
+    }
+}
