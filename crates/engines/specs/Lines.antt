@@ -1,6 +1,7 @@
 -- The line of three functional blocks over three ciphers, whose functions are F1 and G1, F2 and G2, F3 and G3.
 use mathlib.Core.List.{List, [], _∷_}
 use Prim.Native.Nat.{ℕ}
+use lib.ListN.{set}
 use Rattle.std.specs.declared.option.Option.{Option}
 use Rattle.std.specs.declared.option.Option.the-variants.{Some, None}
 use Rattle.cipher.specs.Triples.{in-row}
@@ -12,7 +13,7 @@ use Rattle.engines.specs.declared.table.Stage.the-variants.{First, Second, Thi
 use Rattle.engines.specs.declared.table.BlockState.{BlockState}
 use Rattle.engines.specs.declared.line.Line.{Line}
 use Rattle.engines.specs.Machines.{Machine, result}
-use Rattle.engines.specs.Tables.{held, holding, state}
+use Rattle.engines.specs.Tables.{held, holding, place, state}
 
 -- the function of each functional block in each direction
 abbrev pub stage-function : (F1 G1 F2 G2 F3 G3 : ℕ → ℕ) → Stage → Direction → ℕ → ℕ
@@ -45,6 +46,18 @@ row-of f blocks =
 abbrev pub line-function : {A B C : Type 0} → (F1 G1 : A → ℕ → ℕ) (F2 G2 : B → ℕ → ℕ) (F3 G3 : C → ℕ → ℕ) → Line A B C → Stage → Direction → ℕ → ℕ
 line-function F1 G1 F2 G2 F3 G3 l =
     stage-function (F1 (l .first)) (G1 (l .first)) (F2 (l .second)) (G2 (l .second)) (F3 (l .third)) (G3 (l .third))
+
+abbrev pub with-blocks : {A B C : Type 0} → Line A B C → List BlockState → Line A B C
+with-blocks l blocks = record { first = l .first; second = l .second; third = l .third; table = record { blocks = blocks } }
+
+-- the line after the turn of one functional block
+abbrev pub turned-at : {A B C : Type 0} → (F1 G1 : A → ℕ → ℕ) (F2 G2 : B → ℕ → ℕ) (F3 G3 : C → ℕ → ℕ) → Line A B C → Stage → Option Work → Line A B C
+turned-at F1 G1 F2 G2 F3 G3 l stage event =
+    with-blocks l (set (l .table .blocks) (place stage) (holding (worked (line-function F1 G1 F2 G2 F3 G3 l stage) event)))
+
+-- the line after a cycle
+abbrev pub advanced : {A B C : Type 0} → (F1 G1 : A → ℕ → ℕ) (F2 G2 : B → ℕ → ℕ) (F3 G3 : C → ℕ → ℕ) → Line A B C → Option Work → Line A B C
+advanced F1 G1 F2 G2 F3 G3 l input = with-blocks l (moved (line-function F1 G1 F2 G2 F3 G3 l) (l .table .blocks) input)
 
 -- the line means the triple's functions
 abbrev pub line-machine : {A B C : Type 0} → (F1 G1 : A → ℕ → ℕ) (F2 G2 : B → ℕ → ℕ) (F3 G3 : C → ℕ → ℕ) → Line A B C → Machine

@@ -15,6 +15,10 @@ abbrev pub held : BlockState → Option Work
 held Idle = None
 held (Holding work) = Some work
 
+abbrev pub block-in : BlockState → Option ℕ
+block-in Idle = None
+block-in (Holding work) = Some (work .block)
+
 -- the functional block that holds it
 abbrev pub holding : Option Work → BlockState
 holding None = Idle

@@ -1,11 +1,10 @@
 //! The line: three functional blocks that work three blocks at once.
 ghost use mathlib.Core.Path.{_≡_};
-ghost use lib.ListN.{set};
+ghost use lib.ListN.{length};
 ghost use Rattle.cipher.specs.Triples.{in-row};
-ghost use Rattle.engines.specs.declared.table.Stage.the-variants.{Third};
 ghost use Rattle.engines.specs.Machines.{resting};
-ghost use Rattle.engines.specs.Tables.{held, holding, place, state};
-ghost use Rattle.engines.specs.Lines.{line-function, line-machine, moved, worked};
+ghost use Rattle.engines.specs.Tables.{held, state};
+ghost use Rattle.engines.specs.Lines.{advanced, line-function, line-machine, turned-at};
 use super::engine::Engine;
 use super::table::BlockState;
 use super::table::Stage;
@@ -64,7 +63,8 @@ impl<A: Cipher, B: Cipher, C: Cipher> Line<A, B, C> {
     // One functional block works what comes in, and hands on what it held.
     fn turn(&mut self, stage: Stage, event: Option<Work>) -> Option<Work>
         ensures handed { λ r. ⌜ r ≡ held (state (now (self .entry) .table .blocks) stage) ⌝ }
-        ensures after { λ _. ⌜ now (self .exit) ≡ record { first = now (self .entry) .first; second = now (self .entry) .second; third = now (self .entry) .third; table = record { blocks = set (now (self .entry) .table .blocks) (place stage) (holding (worked (line-function (A·Cipher .forward) (A·Cipher .inverse) (B·Cipher .forward) (B·Cipher .inverse) (C·Cipher .forward) (C·Cipher .inverse) (now (self .entry)) stage) event)) } } ⌝ }
+        ensures after { λ _. ⌜ now (self .exit) ≡ turned-at (A·Cipher .forward) (A·Cipher .inverse) (B·Cipher .forward) (B·Cipher .inverse) (C·Cipher .forward) (C·Cipher .inverse) (now (self .entry)) stage event ⌝ }
+        ensures three { λ _. ⌜ length (now (self .exit) .table .blocks) ≡ 3 ⌝ }
     {
         let taken = match event {
             None => None,
@@ -74,6 +74,15 @@ impl<A: Cipher, B: Cipher, C: Cipher> Line<A, B, C> {
             }),
         };
         self.table.turn(stage, taken)
+    }
+
+    // One cycle: each functional block takes up what the one before it held.
+    fn advance(&mut self, input: Option<Work>)
+        ensures { λ _. ⌜ now (self .exit) ≡ advanced (A·Cipher .forward) (A·Cipher .inverse) (B·Cipher .forward) (B·Cipher .inverse) (C·Cipher .forward) (C·Cipher .inverse) (now (self .entry)) input ⌝ }
+    {
+        let from_first = self.turn(Stage::First, input);
+        let from_second = self.turn(Stage::Second, from_first);
+        let _ = self.turn(Stage::Third, from_second);
     }
 }
 
@@ -87,10 +96,7 @@ pub impl<A: Cipher, B: Cipher, C: Cipher> Engine for Line<A, B, C> as LineEngine
     }
 
     fn clock(&mut self, input: Option<Work>) -> Option<Block> {
-        let from_first = self.turn(Stage::First, input);
-        let from_second = self.turn(Stage::Second, from_first);
-        let _ = self.turn(Stage::Third, from_second);
-        let last = self.table.state(Stage::Third).work()?;
-        Some(last.block)
+        self.advance(input);
+        self.table.state(Stage::Third).block()
     }
 }

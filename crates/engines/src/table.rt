@@ -1,12 +1,13 @@
 //! The functional blocks of a line, in one table.
 ghost use mathlib.Core.Path.{_≡_};
 ghost use mathlib.Core.List.{[], _∷_};
-ghost use lib.ListN.{set};
+ghost use lib.ListN.{length, set};
 ghost use Rattle.engines.specs.declared.table.BlockState.the-variants.{Idle};
-ghost use Rattle.engines.specs.Tables.{held, holding, place, state};
+ghost use Rattle.engines.specs.Tables.{block-in, held, holding, place, state};
 use super::work::Work;
 use super::work::WorkDebug;
 use super::work::WorkPartialEq;
+use cipher::Block;
 
 /// One of the three functional blocks.
 #[derive(Clone, Copy, PartialEq, Eq, Debug)]
@@ -46,13 +47,13 @@ impl BlockState {
         }
     }
 
-    /// What the block holds.
-    pub fn work(self) -> Option<Work>
-        ensures { λ r. ⌜ r ≡ held self ⌝ }
+    /// The block that it holds.
+    pub fn block(self) -> Option<Block>
+        ensures { λ r. ⌜ r ≡ block-in self ⌝ }
     {
         match self {
             BlockState::Idle => None,
-            BlockState::Holding(work) => Some(work),
+            BlockState::Holding(work) => Some(work.block),
         }
     }
 }
@@ -88,6 +89,7 @@ impl Table {
     pub fn turn(&mut self, stage: Stage, event: Option<Work>) -> Option<Work>
         ensures handed { λ r. ⌜ r ≡ held (state (now (self .entry) .blocks) stage) ⌝ }
         ensures after { λ _. ⌜ now (self .exit) ≡ record { blocks = set (now (self .entry) .blocks) (place stage) (holding event) } ⌝ }
+        ensures three { λ _. ⌜ length (now (self .exit) .blocks) ≡ 3 ⌝ }
     {
         match stage {
             Stage::First => self.blocks[0].turn(event),
