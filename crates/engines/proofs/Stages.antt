@@ -67,14 +67,19 @@ turns-advance F1 G1 F2 G2 F3 G3 l l1 l2 l3 input from1 from2 n at1 is1 at2 is2 a
     (three-moved (l .table .blocks) (holding (worked (f First) input)) Idle (λ s. holding (worked (f Second) (held s)))
     (λ s. holding (worked (f Third) (held s))) n))
 
-pub line-turned : {A B C : Type 0} (F1 G1 : A → ℕ → ℕ) (F2 G2 : B → ℕ → ℕ) (F3 G3 : C → ℕ → ℕ) (l : Line A B C) (input : Option Work)
-    → line-machine F1 G1 F2 G2 F3 G3 (advanced F1 G1 F2 G2 F3 G3 l input) ≡ turned (line-machine F1 G1 F2 G2 F3 G3 l) input
-line-turned F1 G1 F2 G2 F3 G3 l input =
+-- a cycle of the line is a cycle of its machine
+pub line-turned : {A B C : Type 0} (F1 G1 : A → ℕ → ℕ) (F2 G2 : B → ℕ → ℕ) (F3 G3 : C → ℕ → ℕ) (l l′ : Line A B C) (input : Option Work)
+    → l′ ≡ advanced F1 G1 F2 G2 F3 G3 l input
+    → line-machine F1 G1 F2 G2 F3 G3 l′ ≡ turned (line-machine F1 G1 F2 G2 F3 G3 l) input
+line-turned F1 G1 F2 G2 F3 G3 l l′ input e =
     let m = line-machine F1 G1 F2 G2 F3 G3 l in
-    ap (λ row. record { forward = m .forward; inverse = m .inverse; depth = m .depth; row = row })
-    (row-moves-up (F1 (l .first)) (G1 (l .first)) (F2 (l .second)) (G2 (l .second)) (F3 (l .third)) (G3 (l .third)) (l .table .blocks) input)
+    rw e
+    (ap (λ row. record { forward = m .forward; inverse = m .inverse; depth = m .depth; row = row })
+    (row-moves-up (F1 (l .first)) (G1 (l .first)) (F2 (l .second)) (G2 (l .second)) (F3 (l .third)) (G3 (l .third)) (l .table .blocks) input))
 
-pub line-answered : {A B C : Type 0} (F1 G1 : A → ℕ → ℕ) (F2 G2 : B → ℕ → ℕ) (F3 G3 : C → ℕ → ℕ) (l : Line A B C) (input : Option Work)
-    → block-in (state (advanced F1 G1 F2 G2 F3 G3 l input .table .blocks) Third) ≡ answered (line-machine F1 G1 F2 G2 F3 G3 l) input
-line-answered F1 G1 F2 G2 F3 G3 l input =
-    block-once-worked (line-function F1 G1 F2 G2 F3 G3 l Third) (held (state (l .table .blocks) Second))
+-- and what the third functional block then holds is its answer
+pub line-answered : {A B C : Type 0} (F1 G1 : A → ℕ → ℕ) (F2 G2 : B → ℕ → ℕ) (F3 G3 : C → ℕ → ℕ) (l l′ : Line A B C) (input : Option Work)
+    → l′ ≡ advanced F1 G1 F2 G2 F3 G3 l input
+    → block-in (state (l′ .table .blocks) Third) ≡ answered (line-machine F1 G1 F2 G2 F3 G3 l) input
+line-answered F1 G1 F2 G2 F3 G3 l l′ input e =
+    rw e (block-once-worked (line-function F1 G1 F2 G2 F3 G3 l Third) (held (state (l .table .blocks) Second)))

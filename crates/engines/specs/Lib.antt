@@ -3,3 +3,4 @@ pub mod Machines
 pub mod PlainEngines
 pub mod Tables
 pub mod Lines
+pub mod Cycles

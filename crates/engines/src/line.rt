@@ -2,7 +2,7 @@
 ghost use mathlib.Core.Path.{_≡_};
 ghost use lib.ListN.{length};
 ghost use Rattle.cipher.specs.Triples.{in-row};
-ghost use Rattle.engines.specs.Machines.{resting};
+ghost use Rattle.engines.specs.Machines.{answered, resting, turned};
 ghost use Rattle.engines.specs.Tables.{held, state};
 ghost use Rattle.engines.specs.Lines.{advanced, line-function, line-machine, turned-at};
 use super::engine::Engine;
@@ -95,7 +95,12 @@ pub impl<A: Cipher, B: Cipher, C: Cipher> Engine for Line<A, B, C> as LineEngine
         LINE_DEPTH
     }
 
-    fn clock(&mut self, input: Option<Work>) -> Option<Block> {
+    /// Besides what any engine promises: each functional block holds its own work on what the one before it held.
+    fn clock(&mut self, input: Option<Work>) -> Option<Block>
+        ensures answer { λ r. ⌜ r ≡ answered (line-machine (A·Cipher .forward) (A·Cipher .inverse) (B·Cipher .forward) (B·Cipher .inverse) (C·Cipher .forward) (C·Cipher .inverse) (now (self .entry))) input ⌝ }
+        ensures after { λ _. ⌜ line-machine (A·Cipher .forward) (A·Cipher .inverse) (B·Cipher .forward) (B·Cipher .inverse) (C·Cipher .forward) (C·Cipher .inverse) (now (self .exit)) ≡ turned (line-machine (A·Cipher .forward) (A·Cipher .inverse) (B·Cipher .forward) (B·Cipher .inverse) (C·Cipher .forward) (C·Cipher .inverse) (now (self .entry))) input ⌝ }
+        ensures held { λ _. ⌜ now (self .exit) ≡ advanced (A·Cipher .forward) (A·Cipher .inverse) (B·Cipher .forward) (B·Cipher .inverse) (C·Cipher .forward) (C·Cipher .inverse) (now (self .entry)) input ⌝ }
+    {
         self.advance(input);
         self.table.state(Stage::Third).block()
     }

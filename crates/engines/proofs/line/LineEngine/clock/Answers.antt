@@ -1,7 +1,5 @@
 use mathlib.Core.Path.{ap, _∙_}
-use Rattle.engines.specs.declared.table.Stage.the-variants.{Third}
-use Rattle.engines.specs.Tables.{block-in, state}
-use Rattle.engines.specs.Lines.{line-machine}
+use Rattle.engines.specs.Tables.{block-in}
 use Rattle.engines.proofs.Stages.{line-answered, line-turned}
 use Rattle.engines.proofs.line.LineEngine.clock.Needs as need
 
@@ -11,11 +9,10 @@ returns g c =
     let b = g .B·Cipher in
     let d = g .C·Cipher in
     let l = c .args .self .now in
+    let l′ = c .advance .last .self in
+    let answer = line-answered (a .forward) (a .inverse) (b .forward) (b .inverse) (d .forward) (d .inverse) l l′ (c .args .input) (c .advance .ensures) in
     record {
-      answer =
-          c .block .ensures ∙ ap block-in (c .state .ensures) ∙ ap (λ x. block-in (state (x .table .blocks) Third)) (c .advance .ensures)
-          ∙ line-answered (a .forward) (a .inverse) (b .forward) (b .inverse) (d .forward) (d .inverse) l (c .args .input);
-      after =
-          ap (line-machine (a .forward) (a .inverse) (b .forward) (b .inverse) (d .forward) (d .inverse)) (c .advance .ensures)
-          ∙ line-turned (a .forward) (a .inverse) (b .forward) (b .inverse) (d .forward) (d .inverse) l (c .args .input);
+      answer = c .block .ensures ∙ ap block-in (c .state .ensures) ∙ answer;
+      after = line-turned (a .forward) (a .inverse) (b .forward) (b .inverse) (d .forward) (d .inverse) l l′ (c .args .input) (c .advance .ensures);
+      held = c .advance .ensures;
     }
