@@ -1,10 +1,12 @@
 //! The line: three functional blocks that work three blocks at once.
 ghost use mathlib.Core.Path.{_≡_};
+ghost use mathlib.Core.List.{[], _∷_};
 ghost use lib.ListN.{length};
 ghost use Rattle.cipher.specs.Triples.{in-row};
+ghost use Rattle.engines.specs.declared.table.BlockState.the-variants.{Idle};
 ghost use Rattle.engines.specs.Machines.{answered, resting, turned};
 ghost use Rattle.engines.specs.Tables.{held, state};
-ghost use Rattle.engines.specs.Lines.{advanced, line-function, line-machine, turned-at};
+ghost use Rattle.engines.specs.Lines.{advanced, line-machine, stage-function, turned-at};
 use super::engine::Engine;
 use super::table::BlockState;
 use super::table::Stage;
@@ -29,7 +31,8 @@ pub struct Line<A, B, C> {
 impl<A: Cipher, B: Cipher, C: Cipher> Line<A, B, C> {
     /// A line with all its functional blocks idle.
     pub fn new(first: A, second: B, third: C) -> Self
-        ensures { λ r. ⌜ line-machine (A·Cipher .forward) (A·Cipher .inverse) (B·Cipher .forward) (B·Cipher .inverse) (C·Cipher .forward) (C·Cipher .inverse) r ≡ resting (in-row (A·Cipher .forward first) (B·Cipher .inverse second) (C·Cipher .forward third)) (in-row (C·Cipher .inverse third) (B·Cipher .forward second) (A·Cipher .inverse first)) 3 ⌝ }
+        ensures means { λ r. ⌜ line-machine A·Cipher B·Cipher C·Cipher r ≡ resting (in-row (A·Cipher .forward first) (B·Cipher .inverse second) (C·Cipher .forward third)) (in-row (C·Cipher .inverse third) (B·Cipher .forward second) (A·Cipher .inverse first)) 3 ⌝ }
+        ensures idle { λ r. ⌜ r .table .blocks ≡ Idle ∷ Idle ∷ Idle ∷ [] ⌝ }
     {
         Line {
             first,
@@ -48,7 +51,7 @@ impl<A: Cipher, B: Cipher, C: Cipher> Line<A, B, C> {
 
     // The work of a functional block. The inverse goes through the ciphers the other way round.
     fn worked(&self, stage: Stage, work: Work) -> Block
-        ensures { λ r. ⌜ r ≡ line-function (A·Cipher .forward) (A·Cipher .inverse) (B·Cipher .forward) (B·Cipher .inverse) (C·Cipher .forward) (C·Cipher .inverse) (now (self .entry)) stage (work .direction) (work .block) ⌝ }
+        ensures { λ r. ⌜ r ≡ stage-function A·Cipher B·Cipher C·Cipher (now (self .entry)) stage (work .direction) (work .block) ⌝ }
     {
         match (stage, work.direction) {
             (Stage::First, Direction::Forward) => self.first.forward(work.block),
@@ -63,7 +66,7 @@ impl<A: Cipher, B: Cipher, C: Cipher> Line<A, B, C> {
     // One functional block works what comes in, and hands on what it held.
     fn turn(&mut self, stage: Stage, event: Option<Work>) -> Option<Work>
         ensures handed { λ r. ⌜ r ≡ held (state (now (self .entry) .table .blocks) stage) ⌝ }
-        ensures after { λ _. ⌜ now (self .exit) ≡ turned-at (A·Cipher .forward) (A·Cipher .inverse) (B·Cipher .forward) (B·Cipher .inverse) (C·Cipher .forward) (C·Cipher .inverse) (now (self .entry)) stage event ⌝ }
+        ensures after { λ _. ⌜ now (self .exit) ≡ turned-at A·Cipher B·Cipher C·Cipher (now (self .entry)) stage event ⌝ }
         ensures three { λ _. ⌜ length (now (self .exit) .table .blocks) ≡ 3 ⌝ }
     {
         let taken = match event {
@@ -78,7 +81,7 @@ impl<A: Cipher, B: Cipher, C: Cipher> Line<A, B, C> {
 
     // One cycle: each functional block takes up what the one before it held.
     fn advance(&mut self, input: Option<Work>)
-        ensures { λ _. ⌜ now (self .exit) ≡ advanced (A·Cipher .forward) (A·Cipher .inverse) (B·Cipher .forward) (B·Cipher .inverse) (C·Cipher .forward) (C·Cipher .inverse) (now (self .entry)) input ⌝ }
+        ensures { λ _. ⌜ now (self .exit) ≡ advanced A·Cipher B·Cipher C·Cipher (now (self .entry)) input ⌝ }
     {
         let from_first = self.turn(Stage::First, input);
         let from_second = self.turn(Stage::Second, from_first);
@@ -89,7 +92,7 @@ impl<A: Cipher, B: Cipher, C: Cipher> Line<A, B, C> {
 pub impl<A: Cipher, B: Cipher, C: Cipher> Engine for Line<A, B, C> as LineEngine {
     const DEPTH: usize = LINE_DEPTH;
 
-    ghost machine = { line-machine (A·Cipher .forward) (A·Cipher .inverse) (B·Cipher .forward) (B·Cipher .inverse) (C·Cipher .forward) (C·Cipher .inverse) };
+    ghost machine = { line-machine A·Cipher B·Cipher C·Cipher };
 
     fn depth_of(&self) -> usize {
         LINE_DEPTH
@@ -97,9 +100,9 @@ pub impl<A: Cipher, B: Cipher, C: Cipher> Engine for Line<A, B, C> as LineEngine
 
     /// Besides what any engine promises: each functional block holds its own work on what the one before it held.
     fn clock(&mut self, input: Option<Work>) -> Option<Block>
-        ensures answer { λ r. ⌜ r ≡ answered (line-machine (A·Cipher .forward) (A·Cipher .inverse) (B·Cipher .forward) (B·Cipher .inverse) (C·Cipher .forward) (C·Cipher .inverse) (now (self .entry))) input ⌝ }
-        ensures after { λ _. ⌜ line-machine (A·Cipher .forward) (A·Cipher .inverse) (B·Cipher .forward) (B·Cipher .inverse) (C·Cipher .forward) (C·Cipher .inverse) (now (self .exit)) ≡ turned (line-machine (A·Cipher .forward) (A·Cipher .inverse) (B·Cipher .forward) (B·Cipher .inverse) (C·Cipher .forward) (C·Cipher .inverse) (now (self .entry))) input ⌝ }
-        ensures held { λ _. ⌜ now (self .exit) ≡ advanced (A·Cipher .forward) (A·Cipher .inverse) (B·Cipher .forward) (B·Cipher .inverse) (C·Cipher .forward) (C·Cipher .inverse) (now (self .entry)) input ⌝ }
+        ensures answer { λ r. ⌜ r ≡ answered (line-machine A·Cipher B·Cipher C·Cipher (now (self .entry))) input ⌝ }
+        ensures after { λ _. ⌜ line-machine A·Cipher B·Cipher C·Cipher (now (self .exit)) ≡ turned (line-machine A·Cipher B·Cipher C·Cipher (now (self .entry))) input ⌝ }
+        ensures held { λ _. ⌜ now (self .exit) ≡ advanced A·Cipher B·Cipher C·Cipher (now (self .entry)) input ⌝ }
     {
         self.advance(input);
         self.table.state(Stage::Third).block()

@@ -19,7 +19,7 @@ pub struct Plain<C> {
 
 impl<C: Cipher> Plain<C> {
     pub fn new(cipher: C) -> Self
-        ensures { λ r. ⌜ plain-machine (C·Cipher .forward) (C·Cipher .inverse) r ≡ resting (C·Cipher .forward cipher) (C·Cipher .inverse cipher) 1 ⌝ }
+        ensures { λ r. ⌜ plain-machine C·Cipher r ≡ resting (C·Cipher .forward cipher) (C·Cipher .inverse cipher) 1 ⌝ }
     {
         Plain { cipher }
     }
@@ -28,7 +28,7 @@ impl<C: Cipher> Plain<C> {
 pub impl<C: Cipher> Engine for Plain<C> as PlainEngine {
     const DEPTH: usize = PLAIN_DEPTH;
 
-    ghost machine = { plain-machine (C·Cipher .forward) (C·Cipher .inverse) };
+    ghost machine = { plain-machine C·Cipher };
 
     fn depth_of(&self) -> usize {
         PLAIN_DEPTH

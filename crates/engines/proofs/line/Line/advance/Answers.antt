@@ -5,12 +5,10 @@ use Rattle.engines.proofs.line.Line.advance.Needs as need
 
 pub returns : need.returns
 returns g c =
-    let a = g .A·Cipher in
-    let b = g .B·Cipher in
-    let d = g .C·Cipher in
+    let l = c .args .self .now in
     let one = c .turn-from-first .ensures in
     let two = c .turn-from-second .ensures in
-    let n : length (c .args .self .now .table .blocks) ≡ 3 = simp (one .after, length-set) at (one .three) in
-    turns-advance (a .forward) (a .inverse) (b .forward) (b .inverse) (d .forward) (d .inverse) (c .args .self .now) (c .turn-from-first .last .self)
-    (c .turn-from-second .last .self) (c .turn .last .self) (c .args .input) (c .turn-from-first .result) (c .turn-from-second .result) n (one .after)
-    (one .handed) (two .after) (two .handed) (c .turn .ensures .after)
+    let n : length (l .table .blocks) ≡ 3 = simp (one .after, length-set) at (one .three) in
+    turns-advance (g .A·Cipher) (g .B·Cipher) (g .C·Cipher) l (c .turn-from-first .last .self) (c .turn-from-second .last .self) (c .turn .last .self)
+    (c .args .input) (c .turn-from-first .result) (c .turn-from-second .result) n (one .after) (one .handed) (two .after) (two .handed)
+    (c .turn .ensures .after)
