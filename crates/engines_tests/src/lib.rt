@@ -2,4 +2,6 @@
 //! numbers that look random.
 pub mod counted;
 pub mod numbers;
+#[cfg(test)]
+mod tests;
 pub mod toys;
