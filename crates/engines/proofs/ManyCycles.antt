@@ -64,7 +64,7 @@ later-more m m1 m2 inputs i h now then =
     rw (then, now) (turned-later m (take i inputs) (getD inputs i None)) ∙ ap (later m) (sym (take-more inputs i None h))
 
 -- and what it answers
-pub answered-more : (m m1 : Machine) (inputs : List (Option Work)) (i : ℕ) → i < length inputs
+answered-more : (m m1 : Machine) (inputs : List (Option Work)) (i : ℕ) → i < length inputs
     → m1 ≡ later m (take i inputs)
     → answered m1 (getD inputs i None) ≡ getD (due m inputs) i None
 answered-more m m1 inputs i h now =
@@ -75,13 +75,16 @@ answered-more m m1 inputs i h now =
     ∙ ap (λ xs. getD (due m xs) i None) (sym (take-more inputs i None h))
     ∙ due-at-first m inputs (i + 1) i k
 
--- written down behind what was written before
-pub answers-more : (m : Machine) (inputs : List (Option Work)) (ys zs : List (Option ℕ)) (i : ℕ) → i < length inputs
+-- which is written down behind what was written before
+pub answers-more : (m m1 : Machine) (inputs : List (Option Work)) (ys zs zs′ : List (Option ℕ)) (answer : Option ℕ) (i : ℕ) → i < length inputs
+    → m1 ≡ later m (take i inputs)
+    → answer ≡ answered m1 (getD inputs i None)
     → zs ≡ written-over (take i (due m inputs)) ys
-    → set zs i (getD (due m inputs) i None) ≡ written-over (take (i + 1) (due m inputs)) ys
-answers-more m inputs ys zs i h e =
+    → zs′ ≡ set zs i answer
+    → zs′ ≡ written-over (take (i + 1) (due m inputs)) ys
+answers-more m m1 inputs ys zs zs′ answer i h now is before after =
     let k : i < length (due m inputs) = simp (length-append, length-map) (omega arith) in
-    rw (e, add-one) (written-over-more (due m inputs) ys i None k)
+    rw (after, is ∙ answered-more m m1 inputs i h now, before, add-one) (written-over-more (due m inputs) ys i None k)
 
 length-written-over : (xs ys : List (Option ℕ)) → length (written-over xs ys) ≡ length ys
 length-written-over [] ys = refl
@@ -109,16 +112,24 @@ map-nothing : (f : Option Work → Option ℕ) (n : ℕ) → f None ≡ None →
 map-nothing f zero e = refl
 map-nothing f (suc n) e = rw (e, map-nothing f n e)
 
-pub row-comes-out : (m : Machine) → let nothing = replicate (length (m .row)) None in take (length nothing) (due m nothing) ≡ m .row
-row-comes-out m =
-    let nothing = replicate (length (m .row)) None in
-    take-at (m .row) (map (result (directed (m .forward) (m .inverse))) nothing) (length nothing) (sym (length-replicate (length (m .row)) None))
-
-pub row-left-empty : (m : Machine) → length (m .row) + 1 ≡ m .depth → later m (replicate (length (m .row)) None) ≡ emptied m
-row-left-empty m p =
-    let n = length (m .row) in
+pub row-comes-out : (m : Machine) (nothing : List (Option Work)) (ys zs : List (Option ℕ))
+    → nothing ≡ replicate (length (m .row)) None
+    → zs ≡ written-over (take (length nothing) (due m nothing)) ys
+    → zs ≡ written-over (m .row) ys
+row-comes-out m nothing ys zs e written =
     let f = result (directed (m .forward) (m .inverse)) in
-    let e : n ≡ m .depth - 1 = omega arith in
-    ap (λ row. record { forward = m .forward; inverse = m .inverse; depth = m .depth; row = row })
-    (ap (λ k. drop k (due m (replicate n None))) (length-replicate n None) ∙ drop-at (m .row) (map f (replicate n None)) n refl
-    ∙ map-nothing f n refl ∙ ap (λ k. replicate k None) e)
+    let n : length (m .row) ≡ length nothing = sym (ap length e ∙ length-replicate (length (m .row)) None) in
+    written ∙ ap (λ xs. written-over xs ys) (take-at (m .row) (map f nothing) (length nothing) n)
+
+pub row-left-empty : (m m′ : Machine) (nothing : List (Option Work))
+    → nothing ≡ replicate (length (m .row)) None
+    → length (m .row) + 1 ≡ m .depth
+    → m′ ≡ later m nothing
+    → m′ ≡ emptied m
+row-left-empty m m′ nothing e p after =
+    let f = result (directed (m .forward) (m .inverse)) in
+    let n : length (m .row) ≡ length nothing = sym (ap length e ∙ length-replicate (length (m .row)) None) in
+    let d : length (m .row) ≡ m .depth - 1 = omega arith in
+    after
+    ∙ ap (λ row. record { forward = m .forward; inverse = m .inverse; depth = m .depth; row = row })
+    (drop-at (m .row) (map f nothing) (length nothing) n ∙ ap (map f) e ∙ map-nothing f (length (m .row)) refl ∙ ap (λ k. replicate k None) d)

@@ -1,6 +1,8 @@
 //! What can be done with any engine.
 ghost use mathlib.Core.Path.{_≡_};
-ghost use lib.ListN.{length, set, take};
+ghost use lib.ListN.{length, replicate, set, take};
+ghost use Rattle.std.specs.declared.option.Option.the-variants.{None};
+ghost use Rattle.engines.specs.Depths.{greatest-depth};
 ghost use Rattle.engines.specs.Cycles.{due, emptied, In-time, later, written-over};
 use super::engine::Engine;
 use super::engine::GREATEST_DEPTH;
@@ -28,13 +30,27 @@ pub fn clock_each<E: Engine>(engine: &mut E, inputs: &[Option<Work>], answers: &
     }
 }
 
+// How many places an engine's row has.
+fn places_of<E: Engine>(engine: &E) -> usize
+    ensures { λ r. ⌜ r ≡ length (E·Engine .machine (now (engine .entry)) .row) ⌝ }
+{
+    engine.depth_of() - 1
+}
+
+// Empty inputs, enough for the row of any engine.
+fn empty_inputs() -> [Option<Work>; GREATEST_DEPTH]
+    ensures { λ r. ⌜ r ≡ replicate greatest-depth None ⌝ }
+{
+    [None; GREATEST_DEPTH]
+}
+
 /// Clocks an engine empty: one empty cycle for each place of its row, which come out in order.
 pub fn flush<E: Engine>(engine: &mut E, answers: &mut [Option<Block>])
     ensures written { λ _. ⌜ now (answers .exit) ≡ written-over (E·Engine .machine (now (engine .entry)) .row) (now (answers .entry)) ⌝ }
     ensures after { λ _. ⌜ E·Engine .machine (now (engine .exit)) ≡ emptied (E·Engine .machine (now (engine .entry))) ⌝ }
 {
-    let nothing = [None; GREATEST_DEPTH];
-    let places = engine.depth_of() - 1;
+    let nothing = empty_inputs();
+    let places = places_of(engine);
     clock_each(engine, &nothing[0..places], answers);
 }
 

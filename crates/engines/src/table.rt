@@ -5,12 +5,10 @@ ghost use lib.ListN.{length, set};
 ghost use Rattle.engines.specs.declared.table.BlockState.the-variants.{Idle};
 ghost use Rattle.engines.specs.Tables.{block-in, held, holding, place, state};
 use super::work::Work;
-use super::work::WorkDebug;
-use super::work::WorkPartialEq;
 use cipher::Block;
 
 /// One of the three functional blocks.
-#[derive(Clone, Copy, PartialEq, Eq, Debug)]
+#[derive(Clone, Copy)]
 pub enum Stage {
     First,
     Second,
@@ -18,7 +16,7 @@ pub enum Stage {
 }
 
 /// A functional block is idle or holds one block, as its own work left it, with its direction.
-#[derive(Clone, Copy, PartialEq, Eq, Debug)]
+#[derive(Clone, Copy)]
 pub enum BlockState {
     Idle,
     Holding(Work),
@@ -40,8 +38,8 @@ impl BlockState {
                 *self = BlockState::Idle;
                 Some(old)
             }
-            (BlockState::Holding(old), Some(work)) => {
-                *self = BlockState::Holding(work);
+            (BlockState::Holding(old), Some(next)) => {
+                *self = BlockState::Holding(next);
                 Some(old)
             }
         }
@@ -58,15 +56,15 @@ impl BlockState {
     }
 }
 
-/// Three functional blocks, of which one at a time is lent to be clocked.
+// Three functional blocks, of which one at a time is lent to be clocked.
 #[derive(Clone, Copy)]
-pub struct Table {
+pub(crate) struct Table {
     blocks: [BlockState; 3],
 }
 
 impl Table {
-    /// All idle.
-    pub fn new() -> Self
+    // All idle.
+    pub(crate) fn new() -> Self
         ensures { λ r. ⌜ r ≡ record { blocks = Idle ∷ Idle ∷ Idle ∷ [] } ⌝ }
     {
         Table {
@@ -74,8 +72,8 @@ impl Table {
         }
     }
 
-    /// What one of them holds.
-    pub fn state(&self, stage: Stage) -> BlockState
+    // What one of them holds.
+    pub(crate) fn state(&self, stage: Stage) -> BlockState
         ensures { λ r. ⌜ r ≡ state (now (self .entry) .blocks) stage ⌝ }
     {
         match stage {
@@ -85,8 +83,8 @@ impl Table {
         }
     }
 
-    /// One of them takes its turn, and its neighbours stay as they are.
-    pub fn turn(&mut self, stage: Stage, event: Option<Work>) -> Option<Work>
+    // One of them takes its turn, and its neighbours stay as they are.
+    pub(crate) fn turn(&mut self, stage: Stage, event: Option<Work>) -> Option<Work>
         ensures handed { λ r. ⌜ r ≡ held (state (now (self .entry) .blocks) stage) ⌝ }
         ensures after { λ _. ⌜ now (self .exit) ≡ record { blocks = set (now (self .entry) .blocks) (place stage) (holding event) } ⌝ }
         ensures three { λ _. ⌜ length (now (self .exit) .blocks) ≡ 3 ⌝ }

@@ -1,11 +1,10 @@
 use mathlib.Core.Path.{_≡_, ap, sym, subst, _∙_}
 use Prim.Native.Nat.{_<_}
-use mathlib.Core.List.{List}
 use native.Mathlib.Omega.{arith}
-use lib.ListN.{length, set, take}
+use lib.ListN.{length, take}
 use Rattle.std.proofs.shelf.Lists.{take-all}
 use Rattle.engines.specs.Cycles.{due, In-time, later, written-over}
-use Rattle.engines.proofs.ManyCycles.{answered-more, answers-more, in-time, later-more}
+use Rattle.engines.proofs.ManyCycles.{answers-more, in-time, later-more}
 use Rattle.engines.proofs.clocking.clock_each.Needs as need
 
 pub loop-cycle-again : need.loop-cycle-again
@@ -15,11 +14,10 @@ loop-cycle-again g c =
     let inputs = c .args .inputs .now in
     let i = c .loop-cycle .cycle in
     let inv = c .loop-cycle .inv in
-    let h : i < length inputs = c .loop-cycle-test .taken in
-    let answer = c .clock-answer .ensures .answer ∙ answered-more m (machine (c .loop-cycle .engine)) inputs i h (inv .0) in (
+    let h : i < length inputs = c .loop-cycle-test .taken in (
       later-more m (machine (c .loop-cycle .engine)) (machine (c .clock-answer .last .self)) inputs i h (inv .0) (c .clock-answer .ensures .after),
-      c .write-down .ensures ∙ ap (set (c .loop-cycle .answers) i) answer
-          ∙ answers-more m inputs (c .args .answers .now) (c .loop-cycle .answers) i h (inv .1),
+      answers-more m (machine (c .loop-cycle .engine)) inputs (c .args .answers .now) (c .loop-cycle .answers) (c .write-down .last .answers)
+          (c .clock-answer .result) i h (inv .0) (c .clock-answer .ensures .answer) (inv .1) (c .write-down .ensures),
     )
 
 pub returns : need.returns

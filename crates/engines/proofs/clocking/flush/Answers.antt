@@ -5,7 +5,6 @@ use lib.ListN.{length, take, replicate}
 use Rattle.std.specs.declared.option.Option.the-variants.{None}
 use Rattle.std.proofs.shelf.Lists.{take-replicate}
 use Rattle.engines.specs.Depths.{greatest-depth}
-use Rattle.engines.specs.Cycles.{due, later, written-over}
 use Rattle.engines.proofs.ManyCycles.{row-comes-out, row-left-empty}
 use Rattle.engines.proofs.clocking.flush.Needs as need
 
@@ -13,15 +12,17 @@ pub returns : need.returns
 returns g c =
     let e = c .args .engine .now in
     let m = g .E·Engine .machine e in
-    let n = length (m .row) in
     let places = g .E·Engine·met .places e in
-    let k : c .depth-of-places .result - 1 - 0 ≡ n = omega (arith, c .depth-of-places .ensures) in
+    let n = c .places-of-places .result - 0 in
+    let all : n ≡ length (m .row) = omega (arith, c .places-of-places .ensures) in
     let few : n ≤ greatest-depth = omega (arith, g .E·Engine·met .shallow e) in
-    let nothing : take (c .depth-of-places .result - 1 - 0) (replicate greatest-depth None) ≡ replicate n None =
-    ap (λ j. take j (replicate greatest-depth None)) k ∙ take-replicate n greatest-depth None few in
+    let nothing : take n (c .empty-inputs-nothing .result) ≡ replicate (length (m .row)) None =
+    ap (take n) (c .empty-inputs-nothing .ensures) ∙ take-replicate n greatest-depth None few ∙ ap (λ k. replicate k None) all in
     record {
       written =
-          c .clock-each .ensures .written ∙ ap (λ xs. written-over (take (length xs) (due m xs)) (c .args .answers .now)) nothing
-          ∙ ap (λ xs. written-over xs (c .args .answers .now)) (row-comes-out m);
-      after = c .clock-each .ensures .after ∙ ap (later m) nothing ∙ row-left-empty m places;
+          row-comes-out m (take n (c .empty-inputs-nothing .result)) (c .args .answers .now) (c .clock-each .last .answers) nothing
+          (c .clock-each .ensures .written);
+      after =
+          row-left-empty m (g .E·Engine .machine (c .clock-each .last .engine)) (take n (c .empty-inputs-nothing .result)) nothing places
+          (c .clock-each .ensures .after);
     }
