@@ -18,14 +18,23 @@ impl SingleKey {
 }
 
 impl KeyBundle {
+    /// Single DEA under each of the three keys, first to third.
+    pub fn into_ciphers(self) -> (Dea, Dea, Dea)
+        ensures forward { λ r. ⌜ (forward-of (r .0) ≡ deaOf (self .first .word)) × (forward-of (r .1) ≡ deaOf (self .second .word)) × (forward-of (r .2) ≡ deaOf (self .third .word)) ⌝ }
+        ensures inverse { λ r. ⌜ (inverse-of (r .0) ≡ dea-inverse (self .first .word)) × (inverse-of (r .1) ≡ dea-inverse (self .second .word)) × (inverse-of (r .2) ≡ dea-inverse (self .third .word)) ⌝ }
+    {
+        let first = self.first.into_cipher();
+        let second = self.second.into_cipher();
+        let third = self.third.into_cipher();
+        (first, second, third)
+    }
+
     /// Triple DEA under these three keys.
     pub fn into_cipher(self) -> Triple<Dea, Dea, Dea>
         ensures forward { λ r. ⌜ triple-forward-of r ≡ triple-dea (self .first .word) (self .second .word) (self .third .word) ⌝ }
         ensures inverse { λ r. ⌜ triple-inverse-of r ≡ triple-dea-inverse (self .first .word) (self .second .word) (self .third .word) ⌝ }
     {
-        let first = self.first.into_cipher();
-        let second = self.second.into_cipher();
-        let third = self.third.into_cipher();
+        let (first, second, third) = self.into_ciphers();
         Triple::new(first, second, third)
     }
 }

@@ -1,0 +1,3 @@
+pub mod Three
+pub mod Stages
+pub mod ManyCycles
