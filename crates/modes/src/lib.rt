@@ -1,0 +1,5 @@
+//! The seven modes of operation over any block cipher: their figures, their equations and what they promise a receiver.
+pub mod family;
+pub mod mode;
+pub mod reach;
+pub mod way;
