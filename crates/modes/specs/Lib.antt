@@ -1,2 +1,4 @@
 pub mod Bits
 pub mod Table
+pub mod Values
+pub mod Orders

@@ -126,4 +126,59 @@ impl Mode {
             (_, Way::Deciphering) => None,
         }
     }
+
+    /// How many units fill the register of a cipher feedback mode.
+    fn units_in_register(self) -> usize
+        ensures value { λ r. ⌜ r ≡ 64 / row self .width ⌝ }
+        ensures within { λ r. ⌜ 0 < r ⌝ ∗ ⌜ r ≤ 64 ⌝ }
+    {
+        64 / self.width()
+    }
+
+    /// How many ciphered units before its own a plain unit rests on; none for the output feedback modes, where it rests on
+    /// its place.
+    pub fn memory(self) -> Option<usize>
+        ensures { λ r. ⌜ r ≡ memory (row self .family) (row self .width) (row self .values) ⌝ }
+    {
+        match self.family() {
+            Family::Codebook => Some(0),
+            Family::Chaining => Some(self.initial_values()),
+            Family::CipherFeedback => Some(self.units_in_register() + self.initial_values() - 1),
+            Family::OutputFeedback => None,
+        }
+    }
+
+    /// Which plain units behind an altered ciphered unit it can make wrong, besides its own.
+    pub fn reach(self) -> Option<Reach>
+        ensures { λ r. ⌜ r ≡ reach (row self .family) (row self .width) (row self .values) ⌝ }
+    {
+        let first = self.initial_values();
+        match self.family() {
+            Family::Chaining => Some(Reach { first, last: first }),
+            Family::CipherFeedback => Some(Reach {
+                first,
+                last: first + self.units_in_register() - 1,
+            }),
+            _ => None,
+        }
+    }
+
+    /// The leftmost bits of a block, as many as a unit has.
+    pub fn leftmost(self, block: Block) -> u64
+        ensures { λ r. ⌜ r ≡ leftmost (row self .width) block ⌝ }
+    {
+        block >> (64 - self.width())
+    }
+
+    /// A feedback register with as many of its first bits dropped as a unit has, and a unit appended.
+    pub fn shifted(self, register: Block, unit: u64) -> Block
+        ensures { λ r. ⌜ r ≡ shifted (row self .width) register unit ⌝ }
+    {
+        let width = self.width();
+        if width < 64 {
+            (register << width).wrapping_add(unit)
+        } else {
+            unit
+        }
+    }
 }
