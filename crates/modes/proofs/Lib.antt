@@ -1,1 +1,5 @@
 pub mod Openings
+pub mod Xor
+pub mod Grown
+pub mod Fits
+pub mod Registers

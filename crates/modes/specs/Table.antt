@@ -88,3 +88,13 @@ reach Codebook w δ = None
 reach Chaining w δ = Some (record { first = δ; last = δ })
 reach CipherFeedback w δ = Some (record { first = δ; last = δ + 64 / w - 1 })
 reach OutputFeedback w δ = None
+
+-- the same of a mode
+abbrev pub distanceOf : Mode → Way → Option ℕ
+distanceOf m way = distance (row m .family) way (row m .values)
+
+abbrev pub memoryOf : Mode → Option ℕ
+memoryOf m = memory (row m .family) (row m .width) (row m .values)
+
+abbrev pub reachOf : Mode → Option Reach
+reachOf m = reach (row m .family) (row m .width) (row m .values)

@@ -2,7 +2,7 @@
 ghost use mathlib.Core.Path.{_≡_};
 ghost use Prim.Native.Nat.{ℕ, _<_, _≤_, _/_};
 ghost use lib.Chars.{codes};
-ghost use Rattle.modes.specs.Table.{row, withCode, named, distance, memory, reach, Codes-name-modes};
+ghost use Rattle.modes.specs.Table.{row, withCode, named, distanceOf, memoryOf, reachOf, Codes-name-modes};
 ghost use Rattle.modes.specs.Bits.{leftmost, shifted};
 use super::family::Family;
 use super::reach::Reach;
@@ -118,7 +118,7 @@ impl Mode {
 
     /// How far back the result lies that a unit must wait for; none where a unit waits for no result.
     pub fn distance(self, way: Way) -> Option<usize>
-        ensures { λ r. ⌜ r ≡ distance (row self .family) way (row self .values) ⌝ }
+        ensures { λ r. ⌜ r ≡ distanceOf self way ⌝ }
     {
         match (self.family(), way) {
             (Family::Codebook, _) => None,
@@ -138,7 +138,7 @@ impl Mode {
     /// How many ciphered units before its own a plain unit rests on; none for the output feedback modes, where it rests on
     /// its place.
     pub fn memory(self) -> Option<usize>
-        ensures { λ r. ⌜ r ≡ memory (row self .family) (row self .width) (row self .values) ⌝ }
+        ensures { λ r. ⌜ r ≡ memoryOf self ⌝ }
     {
         match self.family() {
             Family::Codebook => Some(0),
@@ -150,7 +150,7 @@ impl Mode {
 
     /// Which plain units behind an altered ciphered unit it can make wrong, besides its own.
     pub fn reach(self) -> Option<Reach>
-        ensures { λ r. ⌜ r ≡ reach (row self .family) (row self .width) (row self .values) ⌝ }
+        ensures { λ r. ⌜ r ≡ reachOf self ⌝ }
     {
         let first = self.initial_values();
         match self.family() {
