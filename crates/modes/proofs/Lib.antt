@@ -3,3 +3,5 @@ pub mod Xor
 pub mod Grown
 pub mod Fits
 pub mod Registers
+pub mod Ciphered
+pub mod Numbered
