@@ -5,3 +5,4 @@ pub mod Fits
 pub mod Registers
 pub mod Ciphered
 pub mod Numbered
+pub mod Receiving
