@@ -41,14 +41,14 @@ enciphered-at F f w δ ivs ps n i fit len h =
     let next : List ℕ → ℕ → ℕ = λ cs k. ciphered F f w ivs cs k (getD ps k 0) in
     grown-at next n i h
     ∙ ciphered-same F f w δ ivs (enciphered F f w ivs ps i) (enciphered F f w ivs ps n) i (getD ps i 0) fit len
-      (λ j l. grown-agree next i n j l (omega arith))
+    (λ j l. grown-agree next i n j l (omega arith))
 
 module _ (F G : ℕ → ℕ) (u : Undo F G) where
   pub stream-blocks : (ivs : List ℕ) (n : ℕ) → 0 < length ivs → Units 64 ivs → Units 64 (stream F ivs n)
   stream-blocks ivs n pos b =
       units-grown (λ os i. F (before ivs os i)) 64 n
       (λ i l h. let len = length-grown (λ os k. F (before ivs os k)) i in
-                u .forward-is-block _ (before-below 64 ivs (stream F ivs i) i b h (omega arith)))
+      u .forward-is-block _ (before-below 64 ivs (stream F ivs i) i b h (omega arith)))
 
   pub output-block : (ivs : List ℕ) (i : ℕ) → 0 < length ivs → Units 64 ivs → before ivs (stream F ivs i) i < 2 ^ 64
   output-block ivs i pos b =
@@ -102,7 +102,7 @@ module _ (F G : ℕ → ℕ) (u : Undo F G) where
     enciphered-units =
         units-grown (λ cs i. ciphered F f w ivs cs i (getD us i 0)) w n
         (λ i l hc. let so-far = length-grown (λ cs k. ciphered F f w ivs cs k (getD us k 0)) i in
-                   ciphered-unit w δ ivs (enciphered F f w ivs us i) len b hc f i (getD us i 0) fit (omega arith) (h i (omega arith)))
+        ciphered-unit w δ ivs (enciphered F f w ivs us i) len b hc f i (getD us i 0) fit (omega arith) (h i (omega arith)))
 
     pub deciphered-units : Units w (deciphered F G f w ivs us n)
     deciphered-units =

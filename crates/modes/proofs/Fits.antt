@@ -3,7 +3,7 @@ use mathlib.Core.Path.{_≡_, refl, sym, subst, _∙_}
 use Prim.Native.Nat.{ℕ, zero, suc, _*_, _/_, _^_, _<_, _≤_}
 use native.Mathlib.Omega.{arith}
 use native.Mathlib.Nat.{mul-comm, mul-zero, mul-suc}
-use lib.Dec.{lit<}
+use lib.Dec.{lit<, lit≤}
 use Rattle.modes.specs.declared.family.Family.{Family}
 use Rattle.modes.specs.declared.family.Family.the-variants.{Codebook, Chaining, CipherFeedback, OutputFeedback}
 use Rattle.modes.specs.declared.mode.Mode.{Mode}
@@ -17,10 +17,49 @@ Fit CipherFeedback w δ = (w * (64 / w) ≡ 64) × (0 < δ)
 Fit OutputFeedback w δ = (w ≡ 64) × (0 < δ)
 
 pub fit : (m : Mode) → Fit (row m .family) (row m .width) (row m .values)
-fit = elim [ Ecb ↦ refl | Cbc ↦ (refl, lit< tt) | CbcInterleaved ↦ (refl, lit< tt)
-    | Cfb64 ↦ (refl, lit< tt) | Cfb8 ↦ (refl, lit< tt) | Cfb1 ↦ (refl, lit< tt)
-    | CfbPipelined64 ↦ (refl, lit< tt) | CfbPipelined8 ↦ (refl, lit< tt) | CfbPipelined1 ↦ (refl, lit< tt)
-    | Ofb ↦ (refl, lit< tt) | OfbInterleaved ↦ (refl, lit< tt) ]
+fit = elim [
+  | Ecb ↦ refl
+  | Cbc ↦ (refl, lit< tt)
+  | CbcInterleaved ↦ (refl, lit< tt)
+  | Cfb64 ↦ (refl, lit< tt)
+  | Cfb8 ↦ (refl, lit< tt)
+  | Cfb1 ↦ (refl, lit< tt)
+  | CfbPipelined64 ↦ (refl, lit< tt)
+  | CfbPipelined8 ↦ (refl, lit< tt)
+  | CfbPipelined1 ↦ (refl, lit< tt)
+  | Ofb ↦ (refl, lit< tt)
+  | OfbInterleaved ↦ (refl, lit< tt)
+]
+
+pub width-within : (m : Mode) → (0 < row m .width) × (row m .width ≤ 64)
+width-within = elim [
+  | Ecb ↦ (lit< tt, lit≤ tt)
+  | Cbc ↦ (lit< tt, lit≤ tt)
+  | CbcInterleaved ↦ (lit< tt, lit≤ tt)
+  | Cfb64 ↦ (lit< tt, lit≤ tt)
+  | Cfb8 ↦ (lit< tt, lit≤ tt)
+  | Cfb1 ↦ (lit< tt, lit≤ tt)
+  | CfbPipelined64 ↦ (lit< tt, lit≤ tt)
+  | CfbPipelined8 ↦ (lit< tt, lit≤ tt)
+  | CfbPipelined1 ↦ (lit< tt, lit≤ tt)
+  | Ofb ↦ (lit< tt, lit≤ tt)
+  | OfbInterleaved ↦ (lit< tt, lit≤ tt)
+]
+
+pub values-within : (m : Mode) → row m .values ≤ 3
+values-within = elim [
+  | Ecb ↦ lit≤ tt
+  | Cbc ↦ lit≤ tt
+  | CbcInterleaved ↦ lit≤ tt
+  | Cfb64 ↦ lit≤ tt
+  | Cfb8 ↦ lit≤ tt
+  | Cfb1 ↦ lit≤ tt
+  | CfbPipelined64 ↦ lit≤ tt
+  | CfbPipelined8 ↦ lit≤ tt
+  | CfbPipelined1 ↦ lit≤ tt
+  | Ofb ↦ lit≤ tt
+  | OfbInterleaved ↦ lit≤ tt
+]
 
 -- units of 64 bits are blocks
 pub as-block : {w : ℕ} → w ≡ 64 → (x : ℕ) → x < 2 ^ w → x < 2 ^ 64

@@ -30,8 +30,8 @@ module _ (next : List ℕ → ℕ → ℕ) where
       ⊎-elim
       (λ e. getD-push (grown next n) _ 0 i (len ∙ sym e) ∙ ap (λ k. next (grown next k) k) (sym e))
       (⊎-elim
-       (λ l. getD-append-left (grown next n) _ 0 i (omega arith) ∙ grown-at n i l)
-       (λ l. absurd (omega arith)))
+      (λ l. getD-append-left (grown next n) _ 0 i (omega arith) ∙ grown-at n i l)
+      (λ l. absurd (omega arith)))
       (cases-order i n)
 
   -- two of different length agree as far as both go

@@ -6,3 +6,5 @@ pub mod Registers
 pub mod Ciphered
 pub mod Numbered
 pub mod Receiving
+pub mod Damages
+pub mod Entries

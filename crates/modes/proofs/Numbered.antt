@@ -40,7 +40,7 @@ back-is-before δ ivs xs k len =
     ⊎-elim
     (λ l. before-early ivs xs k (omega arith) ∙ sym (back-early δ (unit ivs) (unit xs) (suc k) (omega arith)))
     (λ l. let e : δ + (k - δ) ≡ k = omega arith in
-          before-late ivs xs k (k - δ) (omega arith) ∙ sym (back-late δ (unit ivs) (unit xs) k (k - δ) e))
+    before-late ivs xs k (k - δ) (omega arith) ∙ sym (back-late δ (unit ivs) (unit xs) k (k - δ) e))
     (cases-lt k δ)
 
 -- the input blocks and the output blocks, numbered
@@ -79,13 +79,13 @@ outputs-obey : (F : ℕ → ℕ) (δ : ℕ) (ivs : List ℕ) (n : ℕ) → lengt
 outputs-obey F δ ivs n len pos =
     up-to n _
     (λ k _. ap F
-        (⊎-elim
-         (λ l. before-early ivs (stream F ivs k) k (omega arith) ∙ sym (back-early δ (unit ivs) (outputs F ivs) (suc k) (omega arith)))
-         (λ l. let e : δ + (k - δ) ≡ k = omega arith in
-               before-late ivs (stream F ivs k) k (k - δ) (omega arith)
-               ∙ grown-at (λ os i. F (before ivs os i)) k (k - δ) (omega arith)
-               ∙ sym (back-late δ (unit ivs) (outputs F ivs) k (k - δ) e))
-         (cases-lt k δ)))
+    (⊎-elim
+    (λ l. before-early ivs (stream F ivs k) k (omega arith) ∙ sym (back-early δ (unit ivs) (outputs F ivs) (suc k) (omega arith)))
+    (λ l. let e : δ + (k - δ) ≡ k = omega arith in
+    before-late ivs (stream F ivs k) k (k - δ) (omega arith)
+    ∙ grown-at (λ os i. F (before ivs os i)) k (k - δ) (omega arith)
+    ∙ sym (back-late δ (unit ivs) (outputs F ivs) k (k - δ) e))
+    (cases-lt k δ)))
 
 -- the equations
 
@@ -98,10 +98,13 @@ module _ (F G : ℕ → ℕ) (w δ : ℕ) (ivs us : List ℕ) (len : length ivs 
   enciphers Chaining fit =
       let cs = enciphered F Chaining w ivs us n in
       up-to n _ (λ k l. enciphered-at F Chaining w δ ivs us n k fit len l ∙ ap (λ x. F (bitXor (getD us k 0) x)) (back-is-before δ ivs cs k len))
-  enciphers CipherFeedback fit =
-      ( inputs w ivs (enciphered F CipherFeedback w ivs us n)
-      , ( inputs-obey w δ ivs (enciphered F CipherFeedback w ivs us n) len (fit .1) n
-        , up-to n _ (λ k l. enciphered-at F CipherFeedback w δ ivs us n k fit len l) ) )
+  enciphers CipherFeedback fit = (
+    inputs w ivs (enciphered F CipherFeedback w ivs us n),
+    (
+      inputs-obey w δ ivs (enciphered F CipherFeedback w ivs us n) len (fit .1) n,
+      up-to n _ (λ k l. enciphered-at F CipherFeedback w δ ivs us n k fit len l),
+    ),
+  )
   enciphers OutputFeedback fit =
       (outputs F ivs, (outputs-obey F δ ivs n len (fit .1), up-to n _ (λ k l. grown-at (next OutputFeedback) n k l)))
 
@@ -118,6 +121,7 @@ module _ (F G : ℕ → ℕ) (w δ : ℕ) (ivs us : List ℕ) (len : length ivs 
       (outputs F ivs, (outputs-obey F δ ivs n len (fit .1), up-to n _ (λ k l. grown-at (back-next OutputFeedback) n k l)))
 
 pub equations : Equations
-equations F G m ivs us len =
-    ( enciphers F G (row m .width) (row m .values) ivs us len (length us) (row m .family) (fit m)
-    , deciphers F G (row m .width) (row m .values) ivs us len (length us) (row m .family) (fit m) )
+equations F G m ivs us len = (
+  enciphers F G (row m .width) (row m .values) ivs us len (length us) (row m .family) (fit m),
+  deciphers F G (row m .width) (row m .values) ivs us len (length us) (row m .family) (fit m),
+)

@@ -23,12 +23,14 @@ use Rattle.modes.proofs.Registers.{before-late, register-below, register-whole
 use Rattle.modes.proofs.Ciphered.{plain-same, output-block, enciphered-units, deciphered-units, deciphers-back}
 
 pub units-give-units : Units-give-units
-units-give-units F G u m Enciphering ivs us b h =
-    ( length-grown (λ cs i. ciphered F (row m .family) (row m .width) ivs cs i (getD us i 0)) (length us)
-    , enciphered-units F G u (row m .family) (row m .width) (row m .values) (fit m) ivs us (b .count) (b .blocks) h (length us) (omega arith) )
-units-give-units F G u m Deciphering ivs us b h =
-    ( length-grown (λ _ i. plain F G (row m .family) (row m .width) ivs us i (getD us i 0)) (length us)
-    , deciphered-units F G u (row m .family) (row m .width) (row m .values) (fit m) ivs us (b .count) (b .blocks) h (length us) (omega arith) )
+units-give-units F G u m Enciphering ivs us b h = (
+  length-grown (λ cs i. ciphered F (row m .family) (row m .width) ivs cs i (getD us i 0)) (length us),
+  enciphered-units F G u (row m .family) (row m .width) (row m .values) (fit m) ivs us (b .count) (b .blocks) h (length us) (omega arith),
+)
+units-give-units F G u m Deciphering ivs us b h = (
+  length-grown (λ _ i. plain F G (row m .family) (row m .width) ivs us i (getD us i 0)) (length us),
+  deciphered-units F G u (row m .family) (row m .width) (row m .values) (fit m) ivs us (b .count) (b .blocks) h (length us) (omega arith),
+)
 
 -- the first n results come from the first n units
 
@@ -93,7 +95,7 @@ restoring F G F′ G′ ends m ivs ps b h =
     let hc = enciphered-units F G (ends .undo) f w (row m .values) (fit m) ivs ps (b .count) (b .blocks) h n (omega arith) in
     ext-getD 0 (deciphered F′ G′ f w ivs cs (length cs)) ps (out ∙ len)
     (λ i l. received-at F G F′ G′ ends f w (row m .values) ivs cs (length cs) i (fit m) (b .count) (b .blocks) hc (omega arith) (omega arith)
-        ∙ deciphers-back F G (ends .undo) f w (row m .values) (fit m) ivs ps (b .count) (b .blocks) h n (omega arith) i (omega arith))
+    ∙ deciphers-back F G (ends .undo) f w (row m .values) (fit m) ivs ps (b .count) (b .blocks) h n (omega arith) i (omega arith))
 
 -- a plain unit rests on its own ciphered unit and on as many before it as the memory says
 plain-rests : (F G : ℕ → ℕ) (f : Family) (w δ r : ℕ) → Fit f w δ → memory f w δ ≡ Some r → (ivs ivs′ xs ys : List ℕ) (a s : ℕ) → length ivs ≡ δ → length ivs′ ≡ δ
@@ -105,7 +107,7 @@ plain-rests F G Chaining w δ r fit mem ivs ivs′ xs ys a s len len′ h =
     let at : (zs : List ℕ) (k : ℕ) → getD zs (k + 0) 0 ≡ getD zs k 0 = λ zs k. ap (λ i. getD zs i 0) (omega arith) in
     let first : getD xs a 0 ≡ getD ys s 0 = sym (at xs a) ∙ h 0 (omega arith) .0 ∙ at ys s in
     let link : before ivs xs (a + r) ≡ before ivs′ ys (s + r) =
-        before-late ivs xs (a + r) a (omega arith) ∙ first ∙ sym (before-late ivs′ ys (s + r) s (omega arith)) in
+    before-late ivs xs (a + r) a (omega arith) ∙ first ∙ sym (before-late ivs′ ys (s + r) s (omega arith)) in
     let own : getD xs (a + r) 0 ≡ getD ys (s + r) 0 = h r (omega arith) .0 in
     cc (link, own)
 plain-rests F G CipherFeedback w zero r fit mem ivs ivs′ xs ys a s len len′ h = absurd (omega (arith, fit .1))
@@ -117,9 +119,9 @@ plain-rests F G CipherFeedback w (suc d) r fit mem ivs ivs′ xs ys a s len len�
     let ea : d + a + suc (q .0) ≡ a + r = omega arith in
     let es : d + s + suc (q .0) ≡ s + r = omega arith in
     let same : register w ivs xs (a + r) ≡ register w ivs′ ys (s + r) =
-        ap (register w ivs xs) (sym ea)
-        ∙ register-whole w d ivs ivs′ xs ys len len′ a s (q .0) (q .2) (λ t l. h t (omega arith))
-        ∙ ap (register w ivs′ ys) es in
+    ap (register w ivs xs) (sym ea)
+    ∙ register-whole w d ivs ivs′ xs ys len len′ a s (q .0) (q .2) (λ t l. h t (omega arith))
+    ∙ ap (register w ivs′ ys) es in
     let own : getD xs (a + r) 0 ≡ getD ys (s + r) 0 = h r (omega arith) .0 in
     cc (same, own)
 plain-rests F G OutputFeedback w δ r fit mem ivs ivs′ xs ys a s len len′ h = let z : _≡_ {A = ℕ} 0 1 = cc in absurd (omega arith)
@@ -136,11 +138,12 @@ recovery F G F′ G′ ends m r mem ivs ivs′ ps xs b b′ hp hx i j ri hi rj h
     let ei : i - r + r ≡ i = omega arith in
     let ej : j - r + r ≡ j = omega arith in
     let window : (k : ℕ) → k ≤ r → (getD xs (j - r + k) 0 ≡ getD cs (i - r + k) 0) × (getD cs (i - r + k) 0 < 2 ^ w) =
-        λ k l.
-            let kj : j - (r - k) ≡ j - r + k = omega arith in
-            let ki : i - (r - k) ≡ i - r + k = omega arith in
-            ( ap (λ x. getD xs x 0) (sym kj) ∙ eq (r - k) (omega arith) ∙ ap (λ x. getD cs x 0) ki
-            , hc (i - r + k) (omega arith) ) in
+    λ k l.
+    let kj : j - (r - k) ≡ j - r + k = omega arith in
+    let ki : i - (r - k) ≡ i - r + k = omega arith in (
+      ap (λ x. getD xs x 0) (sym kj) ∙ eq (r - k) (omega arith) ∙ ap (λ x. getD cs x 0) ki,
+      hc (i - r + k) (omega arith),
+    ) in
     received-at F G F′ G′ ends f w δ ivs′ xs (length xs) j (fit m) (b′ .count) (b′ .blocks) hx (omega arith) hj
     ∙ ap (λ x. plain F G f w ivs′ xs x (getD xs x 0)) (sym ej)
     ∙ plain-rests F G f w δ r (fit m) mem ivs′ ivs xs cs (j - r) (i - r) (b′ .count) (b .count) window

@@ -27,7 +27,7 @@ before-same ivs xs ys i h =
     ⊎-elim
     (λ l. before-early ivs xs i l ∙ sym (before-early ivs ys i l))
     (λ l. let e : length ivs + (i - length ivs) ≡ i = omega arith in
-          before-late ivs xs i (i - length ivs) e ∙ h (i - length ivs) e ∙ sym (before-late ivs ys i (i - length ivs) e))
+    before-late ivs xs i (i - length ivs) e ∙ h (i - length ivs) e ∙ sym (before-late ivs ys i (i - length ivs) e))
     (cases-lt i (length ivs))
 
 pub before-below : (w : ℕ) (ivs xs : List ℕ) (i : ℕ) → Units w ivs → Units w xs → i < length ivs + length xs → before ivs xs i < 2 ^ w
@@ -35,7 +35,7 @@ before-below w ivs xs i hi hx l =
     ⊎-elim
     (λ a. rw (before-early ivs xs i a) (hi i a))
     (λ a. let e : length ivs + (i - length ivs) ≡ i = omega arith in
-          rw (before-late ivs xs i (i - length ivs) e) (hx (i - length ivs) (omega arith)))
+    rw (before-late ivs xs i (i - length ivs) e) (hx (i - length ivs) (omega arith)))
     (cases-lt i (length ivs))
 
 -- the register
@@ -88,7 +88,7 @@ module _ (w d : ℕ) where
       let e : length ivs + (a + k) ≡ suc (d + a + k) = omega arith in
       ap (λ x. register w ivs xs x % 2 ^ (suc k * w)) i ∙ ap (λ x. register w ivs xs (suc (d + a + k)) % 2 ^ x) (suc-mul k w)
       ∙ ap (λ x. x % 2 ^ (k * w + w))
-        (register-late w ivs xs (d + a + k) (omega arith) ∙ ap (shifted w (register w ivs xs (d + a + k))) (before-late ivs xs (suc (d + a + k)) (a + k) e))
+      (register-late w ivs xs (d + a + k) (omega arith) ∙ ap (shifted w (register w ivs xs (d + a + k))) (before-late ivs xs (suc (d + a + k)) (a + k) e))
       ∙ shifted-low w (register w ivs xs (d + a + k)) (getD xs (a + k) 0) (k * w) small l
 
   module _ (ivs ivs′ xs ys : List ℕ) (len : length ivs ≡ suc d) (len′ : length ivs′ ≡ suc d) (a b : ℕ) where
@@ -111,11 +111,11 @@ module _ (w d : ℕ) where
     register-whole q m h =
         let p = low-same (suc q) h (omega arith) in
         let whole : (jvs zs : List ℕ) (c : ℕ) → length jvs ≡ suc d → register w jvs zs (d + c + suc q) ≡ register w jvs zs (d + c + suc q) % 2 ^ (suc q * w) =
-            λ jvs zs c lj.
-                let i : d + c + suc q ≡ suc (d + c + q) = omega arith in
-                let late = register-late w jvs zs (d + c + q) (omega arith) in
-                ap (register w jvs zs) i ∙ late ∙ sym (mod-mod (register w jvs zs (d + c + q) * 2 ^ w + before jvs zs (suc (d + c + q))) (2 ^ 64))
-                ∙ ap (λ x. x % 2 ^ 64) (sym late) ∙ ap (λ x. register w jvs zs x % 2 ^ 64) (sym i) ∙ ap (λ x. register w jvs zs (d + c + suc q) % 2 ^ x) (sym m) in
+        λ jvs zs c lj.
+        let i : d + c + suc q ≡ suc (d + c + q) = omega arith in
+        let late = register-late w jvs zs (d + c + q) (omega arith) in
+        ap (register w jvs zs) i ∙ late ∙ sym (mod-mod (register w jvs zs (d + c + q) * 2 ^ w + before jvs zs (suc (d + c + q))) (2 ^ 64))
+        ∙ ap (λ x. x % 2 ^ 64) (sym late) ∙ ap (λ x. register w jvs zs x % 2 ^ 64) (sym i) ∙ ap (λ x. register w jvs zs (d + c + suc q) % 2 ^ x) (sym m) in
         whole ivs xs a len ∙ p ∙ sym (whole ivs′ ys b len′)
 
 -- a unit of a whole block is the whole register

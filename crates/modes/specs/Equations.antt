@@ -52,4 +52,4 @@ abbrev pub Equations : Type 0
 Equations =
     (F G : ℕ → ℕ) (m : Mode) (ivs us : List ℕ) → length ivs ≡ row m .values
     → Enciphers (row m .family) F (row m .width) (row m .values) (unit ivs) (unit us) (unit (sent F G m ivs us)) (length us)
-      × Deciphers (row m .family) F G (row m .width) (row m .values) (unit ivs) (unit (received F G m ivs us)) (unit us) (length us)
+    × Deciphers (row m .family) F G (row m .width) (row m .values) (unit ivs) (unit (received F G m ivs us)) (unit us) (length us)

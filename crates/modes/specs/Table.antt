@@ -12,16 +12,9 @@ use Rattle.modes.specs.declared.family.Family.the-variants.{Codebook, Chaining
 use Rattle.modes.specs.declared.way.Way.{Way}
 use Rattle.modes.specs.declared.way.Way.the-variants.{Enciphering, Deciphering}
 use Rattle.modes.specs.declared.reach.Reach.{Reach}
+use Rattle.modes.specs.declared.mode.Row.{Row}
 use Rattle.modes.specs.declared.mode.Mode.{Mode}
 use Rattle.modes.specs.declared.mode.Mode.the-variants.{Ecb, Cbc, CbcInterleaved, Cfb64, Cfb8, Cfb1, CfbPipelined64, CfbPipelined8, CfbPipelined1, Ofb, OfbInterleaved}
-
-pub record Row : Type 0 where
-  pub code : ℕ
-  pub family : Family
-  -- bits in a unit
-  pub width : ℕ
-  -- how many initial values, and so the distance of the equations
-  pub values : ℕ
 
 abbrev pub row : Mode → Row
 row Ecb = record { code = 1; family = Codebook; width = 64; values = 0 }

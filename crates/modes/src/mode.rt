@@ -1,9 +1,11 @@
-//! The eleven modes, each with its place in the table.
+//! The eleven modes and the table of their figures.
 ghost use mathlib.Core.Path.{_≡_};
-ghost use Prim.Native.Nat.{ℕ, _<_, _≤_, _/_};
-ghost use lib.Chars.{codes};
+ghost use Prim.Native.Nat.{ℕ, _<_, _≤_};
 ghost use Rattle.modes.specs.Table.{row, withCode, named, distanceOf, memoryOf, reachOf, Codes-name-modes};
 ghost use Rattle.modes.specs.Bits.{leftmost, shifted};
+ghost use Rattle.modes.specs.Equations.{Equations};
+ghost use Rattle.modes.specs.Laws.{Units-give-units, Prefix, Restoring, Recovery, Damage};
+ghost use Rattle.modes.specs.Schedule.{Schedule};
 use super::family::Family;
 use super::reach::Reach;
 use super::way::Way;
@@ -25,7 +27,49 @@ pub enum Mode {
     OfbInterleaved,
 }
 
+// What the table says of a mode: the rest of its figures follows from this.
+#[derive(Clone, Copy)]
+struct Row {
+    code: u8,
+    family: Family,
+    // bits in a unit
+    width: usize,
+    // how many initial values, and so the distance of the equations
+    values: usize,
+}
+
+impl Row {
+    fn new(code: u8, family: Family, width: usize, values: usize) -> Self
+        ensures { λ r. ⌜ r ≡ record { code = code; family = family; width = width; values = values } ⌝ }
+    {
+        Row {
+            code,
+            family,
+            width,
+            values,
+        }
+    }
+}
+
 impl Mode {
+    fn row(self) -> Row
+        ensures { λ r. ⌜ r ≡ row self ⌝ }
+    {
+        match self {
+            Mode::Ecb => Row::new(1, Family::Codebook, 64, 0),
+            Mode::Cbc => Row::new(2, Family::Chaining, 64, 1),
+            Mode::CbcInterleaved => Row::new(3, Family::Chaining, 64, 3),
+            Mode::Cfb64 => Row::new(4, Family::CipherFeedback, 64, 1),
+            Mode::Cfb8 => Row::new(5, Family::CipherFeedback, 8, 1),
+            Mode::Cfb1 => Row::new(6, Family::CipherFeedback, 1, 1),
+            Mode::CfbPipelined64 => Row::new(7, Family::CipherFeedback, 64, 3),
+            Mode::CfbPipelined8 => Row::new(8, Family::CipherFeedback, 8, 3),
+            Mode::CfbPipelined1 => Row::new(9, Family::CipherFeedback, 1, 3),
+            Mode::Ofb => Row::new(10, Family::OutputFeedback, 64, 1),
+            Mode::OfbInterleaved => Row::new(11, Family::OutputFeedback, 64, 3),
+        }
+    }
+
     /// The mode that a code names.
     pub fn from_code(code: u8) -> Option<Mode>
         ensures { λ r. ⌜ r ≡ withCode code ⌝ }
@@ -46,24 +90,12 @@ impl Mode {
         }
     }
 
-    /// The code that names the mode.
+    /// The code that names the mode. Each mode has its own.
     pub fn code(self) -> u8
         ensures value { λ r. ⌜ r ≡ row self .code ⌝ }
-        ensures law { λ _. ⌜ Codes-name-modes ⌝ }
+        ensures naming { λ _. ⌜ Codes-name-modes ⌝ }
     {
-        match self {
-            Mode::Ecb => 1,
-            Mode::Cbc => 2,
-            Mode::CbcInterleaved => 3,
-            Mode::Cfb64 => 4,
-            Mode::Cfb8 => 5,
-            Mode::Cfb1 => 6,
-            Mode::CfbPipelined64 => 7,
-            Mode::CfbPipelined8 => 8,
-            Mode::CfbPipelined1 => 9,
-            Mode::Ofb => 10,
-            Mode::OfbInterleaved => 11,
-        }
+        self.row().code
     }
 
     /// The usual short name, the same for every width.
@@ -81,86 +113,58 @@ impl Mode {
         }
     }
 
-    /// The family, and with it the equations.
+    /// The family, whose equations the mode obeys.
     pub fn family(self) -> Family
-        ensures { λ r. ⌜ r ≡ row self .family ⌝ }
+        ensures value { λ r. ⌜ r ≡ row self .family ⌝ }
+        ensures equations { λ _. ⌜ Equations ⌝ }
     {
-        match self {
-            Mode::Ecb => Family::Codebook,
-            Mode::Cbc | Mode::CbcInterleaved => Family::Chaining,
-            Mode::Ofb | Mode::OfbInterleaved => Family::OutputFeedback,
-            _ => Family::CipherFeedback,
-        }
+        self.row().family
     }
 
-    /// How many bits a unit has.
+    /// How many bits a unit has. A list of units gives as many units, and a longer list begins with what a shorter one gives.
     pub fn width(self) -> usize
         ensures value { λ r. ⌜ r ≡ row self .width ⌝ }
-        ensures within { λ r. ⌜ 0 < r ⌝ ∗ ⌜ r ≤ 64 ⌝ }
+        ensures within { λ r. ⌜ (0 < r) × (r ≤ 64) ⌝ }
+        ensures units { λ _. ⌜ Units-give-units ⌝ }
+        ensures prefix { λ _. ⌜ Prefix ⌝ }
     {
-        match self {
-            Mode::Cfb8 | Mode::CfbPipelined8 => 8,
-            Mode::Cfb1 | Mode::CfbPipelined1 => 1,
-            _ => 64,
-        }
+        self.row().width
     }
 
-    /// How many initial values the mode begins with.
+    /// How many initial values the mode begins with. With the same ones and the same cipher, deciphering gives back what was
+    /// enciphered.
     pub fn initial_values(self) -> usize
-        ensures { λ r. ⌜ r ≡ row self .values ⌝ }
+        ensures value { λ r. ⌜ r ≡ row self .values ⌝ }
+        ensures within { λ r. ⌜ r ≤ 3 ⌝ }
+        ensures restoring { λ _. ⌜ Restoring ⌝ }
     {
-        match self {
-            Mode::Ecb => 0,
-            Mode::Cbc | Mode::Cfb64 | Mode::Cfb8 | Mode::Cfb1 | Mode::Ofb => 1,
-            _ => 3,
-        }
+        self.row().values
     }
 
-    /// How far back the result lies that a unit must wait for; none where a unit waits for no result.
+    /// How far back the result lies that a unit must wait for; none where a unit waits for no result. A unit enters an engine in
+    /// the first cycle that its predecessor and this result allow.
     pub fn distance(self, way: Way) -> Option<usize>
-        ensures { λ r. ⌜ r ≡ distanceOf self way ⌝ }
+        ensures value { λ r. ⌜ r ≡ distanceOf self way ⌝ }
+        ensures schedule { λ _. ⌜ Schedule ⌝ }
     {
-        match (self.family(), way) {
-            (Family::Codebook, _) => None,
-            (Family::OutputFeedback, _) | (_, Way::Enciphering) => Some(self.initial_values()),
-            (_, Way::Deciphering) => None,
-        }
+        self.family().distance(way, self.initial_values())
     }
 
-    /// How many units fill the register of a cipher feedback mode.
-    fn units_in_register(self) -> usize
-        ensures value { λ r. ⌜ r ≡ 64 / row self .width ⌝ }
-        ensures within { λ r. ⌜ 0 < r ⌝ ∗ ⌜ r ≤ 64 ⌝ }
-    {
-        64 / self.width()
-    }
-
-    /// How many ciphered units before its own a plain unit rests on; none for the output feedback modes, where it rests on
-    /// its place.
+    /// How many ciphered units before its own a plain unit rests on, so that a receiver recovers once they arrived; none for the
+    /// output feedback modes, where a plain unit rests on its place.
     pub fn memory(self) -> Option<usize>
-        ensures { λ r. ⌜ r ≡ memoryOf self ⌝ }
+        ensures value { λ r. ⌜ r ≡ memoryOf self ⌝ }
+        ensures recovery { λ _. ⌜ Recovery ⌝ }
     {
-        match self.family() {
-            Family::Codebook => Some(0),
-            Family::Chaining => Some(self.initial_values()),
-            Family::CipherFeedback => Some(self.units_in_register() + self.initial_values() - 1),
-            Family::OutputFeedback => None,
-        }
+        self.family().memory(self.width(), self.initial_values())
     }
 
     /// Which plain units behind an altered ciphered unit it can make wrong, besides its own.
     pub fn reach(self) -> Option<Reach>
-        ensures { λ r. ⌜ r ≡ reachOf self ⌝ }
+        ensures value { λ r. ⌜ r ≡ reachOf self ⌝ }
+        ensures damage { λ _. ⌜ Damage ⌝ }
     {
-        let first = self.initial_values();
-        match self.family() {
-            Family::Chaining => Some(Reach { first, last: first }),
-            Family::CipherFeedback => Some(Reach {
-                first,
-                last: first + self.units_in_register() - 1,
-            }),
-            _ => None,
-        }
+        self.family().reach(self.width(), self.initial_values())
     }
 
     /// The leftmost bits of a block, as many as a unit has.
