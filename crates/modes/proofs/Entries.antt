@@ -85,5 +85,5 @@ schedule D δ deep ne j =
       };
       first = entry-first D δ deep ne j;
       ended = cost-last D δ j;
-      drained = omega (arith, cost-last D δ j);
+      emptied = omega (arith, cost-last D δ j);
     }

@@ -6,3 +6,4 @@ pub mod Results
 pub mod Equations
 pub mod Laws
 pub mod Schedule
+pub mod Worked

@@ -20,9 +20,13 @@ cost D δ zero = 0
 cost D None (suc s) = suc s
 cost D (Some δ) (suc s) = suc s + s / δ * (D - δ)
 
--- and how many a drain adds that finds something
+-- how many a drain adds that finds something
 abbrev pub drain : ℕ → ℕ
 drain D = D - 1
+
+-- how many a stretch costs with the drain that ends it
+abbrev pub drained : ℕ → Option ℕ → ℕ → ℕ
+drained D δ s = cost D δ s + drain D
 
 -- place j may enter in cycle t: its predecessor entered before, and the result at its distance came out before
 pub record May-enter (D : ℕ) (δ : Option ℕ) (j t : ℕ) : Type 0 where
@@ -35,7 +39,7 @@ pub record Ruled (D : ℕ) (δ : Option ℕ) (j : ℕ) : Type 0 where
   pub may : May-enter D δ j (entry D δ j)
   pub first : (t : ℕ) → May-enter D δ j t → entry D δ j ≤ t
   pub ended : cost D δ (j + 1) ≡ entry D δ j + 1
-  pub drained : cost D δ (j + 1) + drain D ≡ leaving D δ j + 1
+  pub emptied : drained D δ (j + 1) ≡ leaving D δ j + 1
 
 abbrev pub Schedule : Type 0
 Schedule = (D : ℕ) (δ : Option ℕ) → 1 ≤ D → (δ ≡ Some 0 → ⊥) → (j : ℕ) → Ruled D δ j

@@ -5,3 +5,4 @@ pub mod order;
 pub mod reach;
 pub mod values;
 pub mod way;
+pub mod worked;
