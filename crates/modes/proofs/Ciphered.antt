@@ -1,11 +1,12 @@
 -- Ciphered and plain units, one place at a time and over lists.
 use mathlib.Core.Path.{_≡_, refl, sym, ap, subst, _∙_}
 use mathlib.Core.List.{List}
-use Prim.Native.Nat.{ℕ, _+_, _-_, _*_, _/_, _^_, _<_, _≤_}
+use Prim.Native.Nat.{ℕ, zero, suc, _+_, _-_, _*_, _/_, _^_, _<_, _≤_}
 use native.Mathlib.Omega.{arith}
 use lib.ListN.{length, getD}
 use lib.Bits.{bitXor}
 use Rattle.std.proofs.shelf.Bits.{xor-lt, shr-below}
+use Rattle.std.proofs.shelf.Lists.{ext-getD}
 use Rattle.cipher.specs.Undoing.{Undo}
 use Rattle.modes.specs.declared.family.Family.{Family}
 use Rattle.modes.specs.declared.family.Family.the-variants.{Codebook, Chaining, CipherFeedback, OutputFeedback}
@@ -42,6 +43,18 @@ enciphered-at F f w δ ivs ps n i fit len h =
     grown-at next n i h
     ∙ ciphered-same F f w δ ivs (enciphered F f w ivs ps i) (enciphered F f w ivs ps n) i (getD ps i 0) fit len
     (λ j l. grown-agree next i n j l (omega arith))
+
+-- and no other list of that length does so
+pub enciphered-only : (F : ℕ → ℕ) (f : Family) (w δ : ℕ) (ivs ps cs : List ℕ) (n : ℕ) → Fit f w δ → length ivs ≡ δ → length cs ≡ n
+    → ((i : ℕ) → i < n → getD cs i 0 ≡ ciphered F f w ivs cs i (getD ps i 0)) → cs ≡ enciphered F f w ivs ps n
+enciphered-only F f w δ ivs ps cs n fit len long h = ext-getD 0 cs (enciphered F f w ivs ps n) (long ∙ sym (length-grown (λ xs k. ciphered F f w ivs xs k (getD ps k 0)) n)) (λ i l. up-to n (omega arith) i (omega arith))
+  where
+    up-to : (k : ℕ) → k ≤ n → (i : ℕ) → i < k → getD cs i 0 ≡ getD (enciphered F f w ivs ps n) i 0
+    up-to zero hk i l = absurd (omega arith)
+    up-to (suc k) hk i l =
+        h i (omega arith)
+        ∙ ciphered-same F f w δ ivs cs (enciphered F f w ivs ps n) i (getD ps i 0) fit len (λ j q. up-to k (omega arith) j (omega arith))
+        ∙ sym (enciphered-at F f w δ ivs ps n i fit len (omega arith))
 
 module _ (F G : ℕ → ℕ) (u : Undo F G) where
   pub stream-blocks : (ivs : List ℕ) (n : ℕ) → 0 < length ivs → Units 64 ivs → Units 64 (stream F ivs n)

@@ -4,11 +4,14 @@ use Prim.Native.Nat.{ℕ, zero, suc, _*_, _/_, _^_, _<_, _≤_}
 use native.Mathlib.Omega.{arith}
 use native.Mathlib.Nat.{mul-comm, mul-zero, mul-suc}
 use lib.Dec.{lit<, lit≤}
+use Rattle.std.specs.declared.option.Option.the-variants.{Some}
 use Rattle.modes.specs.declared.family.Family.{Family}
 use Rattle.modes.specs.declared.family.Family.the-variants.{Codebook, Chaining, CipherFeedback, OutputFeedback}
+use Rattle.modes.specs.declared.way.Way.{Way}
+use Rattle.modes.specs.declared.way.Way.the-variants.{Enciphering, Deciphering}
 use Rattle.modes.specs.declared.mode.Mode.{Mode}
 use Rattle.modes.specs.declared.mode.Mode.the-variants.{Ecb, Cbc, CbcInterleaved, Cfb64, Cfb8, Cfb1, CfbPipelined64, CfbPipelined8, CfbPipelined1, Ofb, OfbInterleaved}
-use Rattle.modes.specs.Table.{row}
+use Rattle.modes.specs.Table.{row, distance, distanceOf}
 
 abbrev pub Fit : Family → ℕ → ℕ → Type 0
 Fit Codebook w δ = w ≡ 64
@@ -60,6 +63,18 @@ values-within = elim [
   | Ofb ↦ lit≤ tt
   | OfbInterleaved ↦ lit≤ tt
 ]
+
+-- no unit waits for its own result
+pub distance-proper : (m : Mode) (way : Way) → distanceOf m way ≡ Some 0 → ⊥
+distance-proper m way e = proper (row m .family) way (row m .width) (row m .values) (fit m) e
+  where
+    proper : (f : Family) (way : Way) (w δ : ℕ) → Fit f w δ → distance f way δ ≡ Some 0 → ⊥
+    proper Codebook way w δ fit e = let z : _≡_ {A = ℕ} 0 1 = cc in omega arith
+    proper Chaining Enciphering w δ fit e = let z : δ ≡ 0 = cc in omega (arith, fit .1)
+    proper Chaining Deciphering w δ fit e = let z : _≡_ {A = ℕ} 0 1 = cc in omega arith
+    proper CipherFeedback Enciphering w δ fit e = let z : δ ≡ 0 = cc in omega (arith, fit .1)
+    proper CipherFeedback Deciphering w δ fit e = let z : _≡_ {A = ℕ} 0 1 = cc in omega arith
+    proper OutputFeedback way w δ fit e = let z : δ ≡ 0 = cc in omega (arith, fit .1)
 
 -- units of 64 bits are blocks
 pub as-block : {w : ℕ} → w ≡ 64 → (x : ℕ) → x < 2 ^ w → x < 2 ^ 64

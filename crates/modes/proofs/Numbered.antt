@@ -8,6 +8,7 @@ use native.Mathlib.Omega.{arith}
 use lib.Dec.{leb}
 use lib.ListN.{length, getD}
 use lib.Bits.{bitXor}
+use Rattle.std.proofs.shelf.Lists.{ext-getD}
 use Rattle.std.proofs.shelf.Tests.{cases-lt, le-leb, lt-leb, cond-true, cond-false}
 use Rattle.modes.specs.declared.family.Family.{Family}
 use Rattle.modes.specs.declared.family.Family.the-variants.{Codebook, Chaining, CipherFeedback, OutputFeedback}
@@ -16,10 +17,10 @@ use Rattle.modes.specs.Bits.{leftmost, shifted}
 use Rattle.modes.specs.Table.{row}
 use Rattle.modes.specs.Results.{before, register, stream, output, ciphered, plain, enciphered, deciphered}
 use Rattle.modes.specs.Equations.{unit, Up-to, back, input, Enciphers, Deciphers, Equations}
-use Rattle.modes.proofs.Grown.{grown-at}
+use Rattle.modes.proofs.Grown.{length-grown, grown-at}
 use Rattle.modes.proofs.Fits.{Fit, fit}
 use Rattle.modes.proofs.Registers.{before-early, before-late, register-early, register-late}
-use Rattle.modes.proofs.Ciphered.{enciphered-at}
+use Rattle.modes.proofs.Ciphered.{enciphered-at, enciphered-only}
 
 -- from places to numbers
 up-to : (n : ℕ) (Q : ℕ → Type 0) → ((k : ℕ) → k < n → Q (suc k)) → Up-to n Q
@@ -70,6 +71,18 @@ module _ (w δ : ℕ) (ivs cs : List ℕ) (len : length ivs ≡ δ) (pos : 0 < �
   inputs-obey : (n : ℕ) → Up-to n Obeys
   inputs-obey n = up-to n Obeys (λ k _. ⊎-elim (input-early k) (input-late k) (cases-lt k δ))
 
+  -- no other input blocks obey
+  inputs-only : (I : ℕ → ℕ) (n : ℕ) → Up-to n (λ i. I i ≡ input w δ (unit ivs) (unit cs) I i) → (k : ℕ) → k < n → I (suc k) ≡ register w ivs cs k
+  inputs-only I n h zero l =
+      h 1 (omega arith) (omega arith) ∙ cond-true (leb 1 δ) _ _ (le-leb 1 δ (omega arith)) ∙ sym (register-early w ivs cs 0 (omega arith))
+  inputs-only I n h (suc k) l =
+      let i : suc (suc k) - 1 ≡ suc k = omega arith in
+      let last : I (suc (suc k) - 1) ≡ inputs w ivs cs (suc (suc k) - 1) =
+      ap I i ∙ inputs-only I n h k (omega arith) ∙ ap (inputs w ivs cs) (sym i) in
+      h (suc (suc k)) (omega arith) (omega arith)
+      ∙ ap (λ x. cond (leb (suc (suc k)) δ) (unit ivs (suc (suc k))) (shifted w x (unit cs (suc (suc k) - δ)))) last
+      ∙ sym (inputs-obey (suc (suc k)) (suc (suc k)) (omega arith) (omega arith))
+
 abbrev outputs : (ℕ → ℕ) → List ℕ → ℕ → ℕ
 outputs F ivs zero = 0
 outputs F ivs (suc k) = output F ivs k
@@ -87,41 +100,78 @@ outputs-obey F δ ivs n len pos =
     ∙ sym (back-late δ (unit ivs) (outputs F ivs) k (k - δ) e))
     (cases-lt k δ)))
 
--- the equations
+-- no other output blocks obey
+outputs-only : (F : ℕ → ℕ) (δ : ℕ) (ivs : List ℕ) (O : ℕ → ℕ) (n : ℕ) → length ivs ≡ δ → 0 < δ → Up-to n (λ i. O i ≡ F (back δ (unit ivs) O i))
+    → (k : ℕ) → k ≤ n → (i : ℕ) → i < k → O (suc i) ≡ output F ivs i
+outputs-only F δ ivs O n len pos h zero hk i l = absurd (omega arith)
+outputs-only F δ ivs O n len pos h (suc k) hk i l =
+    h (suc i) (omega arith) (omega arith)
+    ∙ ap F
+    (⊎-elim
+    (λ a. back-early δ (unit ivs) O (suc i) (omega arith) ∙ sym (back-early δ (unit ivs) (outputs F ivs) (suc i) (omega arith)))
+    (λ a. let e : δ + (i - δ) ≡ i = omega arith in
+    back-late δ (unit ivs) O i (i - δ) e ∙ outputs-only F δ ivs O n len pos h k (omega arith) (i - δ) (omega arith)
+    ∙ sym (back-late δ (unit ivs) (outputs F ivs) i (i - δ) e))
+    (cases-lt i δ))
+    ∙ sym (outputs-obey F δ ivs (suc i) len pos (suc i) (omega arith) (omega arith))
 
-module _ (F G : ℕ → ℕ) (w δ : ℕ) (ivs us : List ℕ) (len : length ivs ≡ δ) (n : ℕ) where
-  abbrev next : Family → List ℕ → ℕ → ℕ
-  next f cs i = ciphered F f w ivs cs i (getD us i 0)
+-- the equations of one mode, place by place
 
-  enciphers : (f : Family) → Fit f w δ → Enciphers f F w δ (unit ivs) (unit us) (unit (enciphered F f w ivs us n)) n
-  enciphers Codebook fit = up-to n _ (λ k l. grown-at (next Codebook) n k l)
-  enciphers Chaining fit =
-      let cs = enciphered F Chaining w ivs us n in
-      up-to n _ (λ k l. enciphered-at F Chaining w δ ivs us n k fit len l ∙ ap (λ x. F (bitXor (getD us k 0) x)) (back-is-before δ ivs cs k len))
-  enciphers CipherFeedback fit = (
-    inputs w ivs (enciphered F CipherFeedback w ivs us n),
-    (
-      inputs-obey w δ ivs (enciphered F CipherFeedback w ivs us n) len (fit .1) n,
-      up-to n _ (λ k l. enciphered-at F CipherFeedback w δ ivs us n k fit len l),
-    ),
-  )
-  enciphers OutputFeedback fit =
-      (outputs F ivs, (outputs-obey F δ ivs n len (fit .1), up-to n _ (λ k l. grown-at (next OutputFeedback) n k l)))
+module _ (F G : ℕ → ℕ) (w δ : ℕ) (ivs : List ℕ) (len : length ivs ≡ δ) (ps cs : List ℕ) (n : ℕ) where
+  abbrev Ciphered : Family → Type 0
+  Ciphered f = (k : ℕ) → k < n → getD cs k 0 ≡ ciphered F f w ivs cs k (getD ps k 0)
 
-  abbrev back-next : Family → List ℕ → ℕ → ℕ
-  back-next f _ i = plain F G f w ivs us i (getD us i 0)
+  enciphers : (f : Family) → Fit f w δ → Ciphered f → Enciphers f F w δ (unit ivs) (unit ps) (unit cs) n
+  enciphers Codebook fit h = up-to n _ h
+  enciphers Chaining fit h = up-to n _ (λ k l. h k l ∙ ap (λ x. F (bitXor (getD ps k 0) x)) (back-is-before δ ivs cs k len))
+  enciphers CipherFeedback fit h = (inputs w ivs cs, (inputs-obey w δ ivs cs len (fit .1) n, up-to n _ h))
+  enciphers OutputFeedback fit h = (outputs F ivs, (outputs-obey F δ ivs n len (fit .1), up-to n _ h))
 
-  deciphers : (f : Family) → Fit f w δ → Deciphers f F G w δ (unit ivs) (unit (deciphered F G f w ivs us n)) (unit us) n
-  deciphers Codebook fit = up-to n _ (λ k l. grown-at (back-next Codebook) n k l)
-  deciphers Chaining fit =
-      up-to n _ (λ k l. grown-at (back-next Chaining) n k l ∙ ap (bitXor (G (getD us k 0))) (back-is-before δ ivs us k len))
-  deciphers CipherFeedback fit =
-      (inputs w ivs us, (inputs-obey w δ ivs us len (fit .1) n, up-to n _ (λ k l. grown-at (back-next CipherFeedback) n k l)))
-  deciphers OutputFeedback fit =
-      (outputs F ivs, (outputs-obey F δ ivs n len (fit .1), up-to n _ (λ k l. grown-at (back-next OutputFeedback) n k l)))
+  enciphered-by : (f : Family) → Fit f w δ → Enciphers f F w δ (unit ivs) (unit ps) (unit cs) n → Ciphered f
+  enciphered-by Codebook fit h k l = h (suc k) (omega arith) (omega arith)
+  enciphered-by Chaining fit h k l =
+      h (suc k) (omega arith) (omega arith) ∙ ap (λ x. F (bitXor (getD ps k 0) x)) (sym (back-is-before δ ivs cs k len))
+  enciphered-by CipherFeedback fit h k l =
+      h .1 .1 (suc k) (omega arith) (omega arith)
+      ∙ ap (λ x. bitXor (getD ps k 0) (leftmost w (F x))) (inputs-only w δ ivs cs len (fit .1) (h .0) n (h .1 .0) k l)
+  enciphered-by OutputFeedback fit h k l =
+      h .1 .1 (suc k) (omega arith) (omega arith)
+      ∙ ap (bitXor (getD ps k 0)) (outputs-only F δ ivs (h .0) n len (fit .1) (h .1 .0) n (omega arith) k l)
+
+  abbrev Plain : Family → Type 0
+  Plain f = (k : ℕ) → k < n → getD ps k 0 ≡ plain F G f w ivs cs k (getD cs k 0)
+
+  deciphers : (f : Family) → Fit f w δ → Plain f → Deciphers f F G w δ (unit ivs) (unit ps) (unit cs) n
+  deciphers Codebook fit h = up-to n _ h
+  deciphers Chaining fit h = up-to n _ (λ k l. h k l ∙ ap (bitXor (G (getD cs k 0))) (back-is-before δ ivs cs k len))
+  deciphers CipherFeedback fit h = (inputs w ivs cs, (inputs-obey w δ ivs cs len (fit .1) n, up-to n _ h))
+  deciphers OutputFeedback fit h = (outputs F ivs, (outputs-obey F δ ivs n len (fit .1), up-to n _ h))
+
+  deciphered-by : (f : Family) → Fit f w δ → Deciphers f F G w δ (unit ivs) (unit ps) (unit cs) n → Plain f
+  deciphered-by Codebook fit h k l = h (suc k) (omega arith) (omega arith)
+  deciphered-by Chaining fit h k l =
+      h (suc k) (omega arith) (omega arith) ∙ ap (bitXor (G (getD cs k 0))) (sym (back-is-before δ ivs cs k len))
+  deciphered-by CipherFeedback fit h k l =
+      h .1 .1 (suc k) (omega arith) (omega arith)
+      ∙ ap (λ x. bitXor (getD cs k 0) (leftmost w (F x))) (inputs-only w δ ivs cs len (fit .1) (h .0) n (h .1 .0) k l)
+  deciphered-by OutputFeedback fit h k l =
+      h .1 .1 (suc k) (omega arith) (omega arith)
+      ∙ ap (bitXor (getD cs k 0)) (outputs-only F δ ivs (h .0) n len (fit .1) (h .1 .0) n (omega arith) k l)
 
 pub equations : Equations
-equations F G m ivs us len = (
-  enciphers F G (row m .width) (row m .values) ivs us len (length us) (row m .family) (fit m),
-  deciphers F G (row m .width) (row m .values) ivs us len (length us) (row m .family) (fit m),
-)
+equations F G m ivs us len =
+    let f = row m .family in
+    let w = row m .width in
+    let δ = row m .values in
+    let n = length us in
+    let cs = enciphered F f w ivs us n in
+    let ps = deciphered F G f w ivs us n in
+    record {
+      sends = enciphers F G w δ ivs len us cs n f (fit m) (λ k l. enciphered-at F f w δ ivs us n k (fit m) len l);
+      sends-only = λ xs lx h. enciphered-only F f w δ ivs us xs n (fit m) len lx (enciphered-by F G w δ ivs len us xs n f (fit m) h);
+      receives = deciphers F G w δ ivs len ps us n f (fit m) (λ k l. grown-at (λ _ i. plain F G f w ivs us i (getD us i 0)) n k l);
+      receives-only = λ xs lx h.
+          ext-getD 0 xs ps (lx ∙ sym (length-grown (λ _ i. plain F G f w ivs us i (getD us i 0)) n))
+          (λ k l. deciphered-by F G w δ ivs len xs us n f (fit m) h k (omega arith)
+          ∙ sym (grown-at (λ _ i. plain F G f w ivs us i (getD us i 0)) n k (omega arith)));
+    }

@@ -47,9 +47,19 @@ Deciphers CipherFeedback F G w δ IV P C n =
 Deciphers OutputFeedback F G w δ IV P C n =
     (O : ℕ → ℕ) × (Up-to n (λ i. O i ≡ F (back δ IV O i)) × Up-to n (λ i. P i ≡ bitXor (C i) (O i)))
 
--- what is sent and what is received obey the equations of the mode
+-- the lists ps and cs obey the equations of a mode, from ps to cs or from cs to ps
+abbrev pub From-plain : (ℕ → ℕ) → Mode → List ℕ → List ℕ → List ℕ → Type 0
+From-plain F m ivs ps cs = Enciphers (row m .family) F (row m .width) (row m .values) (unit ivs) (unit ps) (unit cs) (length ps)
+
+abbrev pub From-ciphered : (ℕ → ℕ) → (ℕ → ℕ) → Mode → List ℕ → List ℕ → List ℕ → Type 0
+From-ciphered F G m ivs ps cs = Deciphers (row m .family) F G (row m .width) (row m .values) (unit ivs) (unit ps) (unit cs) (length cs)
+
+-- what is sent and what is received for the units us obey the equations, and no other list of that length does
+pub record Obeyed (F G : ℕ → ℕ) (m : Mode) (ivs us : List ℕ) : Type 0 where
+  pub sends : From-plain F m ivs us (sent F G m ivs us)
+  pub sends-only : (cs : List ℕ) → length cs ≡ length us → From-plain F m ivs us cs → cs ≡ sent F G m ivs us
+  pub receives : From-ciphered F G m ivs (received F G m ivs us) us
+  pub receives-only : (ps : List ℕ) → length ps ≡ length us → From-ciphered F G m ivs ps us → ps ≡ received F G m ivs us
+
 abbrev pub Equations : Type 0
-Equations =
-    (F G : ℕ → ℕ) (m : Mode) (ivs us : List ℕ) → length ivs ≡ row m .values
-    → Enciphers (row m .family) F (row m .width) (row m .values) (unit ivs) (unit us) (unit (sent F G m ivs us)) (length us)
-    × Deciphers (row m .family) F G (row m .width) (row m .values) (unit ivs) (unit (received F G m ivs us)) (unit us) (length us)
+Equations = (F G : ℕ → ℕ) (m : Mode) (ivs us : List ℕ) → length ivs ≡ row m .values → Obeyed F G m ivs us

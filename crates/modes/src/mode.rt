@@ -1,6 +1,7 @@
 //! The eleven modes and the table of their figures.
 ghost use mathlib.Core.Path.{_≡_};
 ghost use Prim.Native.Nat.{ℕ, _<_, _≤_};
+ghost use Rattle.std.specs.declared.option.Option.the-variants.{Some};
 ghost use Rattle.modes.specs.Table.{row, withCode, named, distanceOf, memoryOf, reachOf, Codes-name-modes};
 ghost use Rattle.modes.specs.Bits.{leftmost, shifted};
 ghost use Rattle.modes.specs.Equations.{Equations};
@@ -145,6 +146,7 @@ impl Mode {
     /// the first cycle that its predecessor and this result allow.
     pub fn distance(self, way: Way) -> Option<usize>
         ensures value { λ r. ⌜ r ≡ distanceOf self way ⌝ }
+        ensures proper { λ r. ⌜ (r ≡ Some 0 → ⊥) ⌝ }
         ensures schedule { λ _. ⌜ Schedule ⌝ }
     {
         self.family().distance(way, self.initial_values())
