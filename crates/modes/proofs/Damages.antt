@@ -14,14 +14,13 @@ use Rattle.modes.specs.declared.family.Family.the-variants.{Codebook, Chaining
 use Rattle.modes.specs.Bits.{leftmost}
 use Rattle.modes.specs.Table.{row, reach}
 use Rattle.modes.specs.Values.{Units}
-use Rattle.modes.specs.Results.{before, register, output, ciphered, plain, enciphered, deciphered}
+use Rattle.modes.specs.declared.way.Way.the-variants.{Enciphering, Deciphering}
+use Rattle.modes.specs.Results.{before, register, output, plain, sent, received}
 use Rattle.modes.specs.Laws.{In-reach, Struck, Reached, Damage}
 use Rattle.modes.proofs.Xor.{xor-last-two, xor-difference, xor-cancel}
-use Rattle.modes.proofs.Grown.{length-grown}
 use Rattle.modes.proofs.Fits.{Fit, fit, as-block, register-holds}
 use Rattle.modes.proofs.Registers.{before-late, before-same, register-same, register-whole, register-full}
-use Rattle.modes.proofs.Ciphered.{enciphered-units, deciphers-back}
-use Rattle.modes.proofs.Receiving.{received-at}
+use Rattle.modes.proofs.Receiving.{length-results, results-units, received-at, sent-back}
 
 -- functions that undo each other send different blocks to different blocks
 
@@ -142,14 +141,12 @@ damage F G F′ G′ ends m ivs ps xs b hp hx hl d hd alike ne =
     let w = row m .width in
     let δ = row m .values in
     let u = ends .undo in
-    let n = length ps in
-    let cs = enciphered F f w ivs ps n in
-    let len : length cs ≡ n = length-grown (λ ys k. ciphered F f w ivs ys k (getD ps k 0)) n in
-    let hc = enciphered-units F G u f w δ (fit m) ivs ps (b .count) (b .blocks) hp n (omega arith) in
-    let plain-sent = deciphers-back F G u f w δ (fit m) ivs ps (b .count) (b .blocks) hp n (omega arith) in
-    let out : length (deciphered F′ G′ f w ivs xs (length xs)) ≡ length xs = length-grown (λ _ k. plain F′ G′ f w ivs xs k (getD xs k 0)) (length xs) in
-    let at : (i : ℕ) → i < length xs → getD (deciphered F′ G′ f w ivs xs (length xs)) i 0 ≡ plain F G f w ivs xs i (getD xs i 0) =
-    λ i l. received-at F G F′ G′ ends f w δ ivs xs (length xs) i (fit m) (b .count) (b .blocks) hx (omega arith) l in
+    let cs = sent F G m ivs ps in
+    let len : length cs ≡ length ps = length-results F G m Enciphering ivs ps (length ps) in
+    let out : length (received F′ G′ m ivs xs) ≡ length xs = length-results F′ G′ m Deciphering ivs xs (length xs) in
+    let hc = results-units F G m u Enciphering ivs ps (length ps) b hp (omega arith) in
+    let plain-sent = sent-back F G u m ivs ps b hp in
+    let at = λ (i : ℕ) (l : i < length xs). received-at F G F′ G′ ends m ivs xs i b hx l in
     let hl′ : length xs ≤ length cs = omega arith in
     let e = bitXor (getD cs d 0) (getD xs d 0) in
     record {

@@ -1,9 +1,13 @@
 -- The widths and distances of each family. All that the laws need to know of the table.
 use mathlib.Core.Path.{_≡_, refl, sym, subst, _∙_}
+use mathlib.Core.List.{List, [], _∷_}
+use mathlib.Core.Bool.{Bool, true, cond, _&&_}
+use mathlib.Core.Logic.{⊎-elim}
 use Prim.Native.Nat.{ℕ, zero, suc, _*_, _/_, _^_, _<_, _≤_}
 use native.Mathlib.Omega.{arith}
 use native.Mathlib.Nat.{mul-comm, mul-zero, mul-suc}
-use lib.Dec.{lit<, lit≤}
+use lib.Dec.{eqb, ltb, leb}
+use Rattle.std.proofs.shelf.Tests.{eqb-true, ltb-true, leb-true, and-parts, cases-bool, cond-true, cond-false}
 use Rattle.std.specs.declared.option.Option.the-variants.{Some}
 use Rattle.modes.specs.declared.family.Family.{Family}
 use Rattle.modes.specs.declared.family.Family.the-variants.{Codebook, Chaining, CipherFeedback, OutputFeedback}
@@ -11,7 +15,7 @@ use Rattle.modes.specs.declared.way.Way.{Way}
 use Rattle.modes.specs.declared.way.Way.the-variants.{Enciphering, Deciphering}
 use Rattle.modes.specs.declared.mode.Mode.{Mode}
 use Rattle.modes.specs.declared.mode.Mode.the-variants.{Ecb, Cbc, CbcInterleaved, Cfb64, Cfb8, Cfb1, CfbPipelined64, CfbPipelined8, CfbPipelined1, Ofb, OfbInterleaved}
-use Rattle.modes.specs.Table.{row, distance, distanceOf}
+use Rattle.modes.specs.Table.{row, firstWith, modes, distance, distanceOf, Codes-name-modes}
 
 abbrev pub Fit : Family → ℕ → ℕ → Type 0
 Fit Codebook w δ = w ≡ 64
@@ -19,50 +23,69 @@ Fit Chaining w δ = (w ≡ 64) × (0 < δ)
 Fit CipherFeedback w δ = (w * (64 / w) ≡ 64) × (0 < δ)
 Fit OutputFeedback w δ = (w ≡ 64) × (0 < δ)
 
-pub fit : (m : Mode) → Fit (row m .family) (row m .width) (row m .values)
-fit = elim [
+-- as a test of a row
+
+abbrev fits : Family → ℕ → ℕ → Bool
+fits Codebook w δ = eqb w 64
+fits Chaining w δ = eqb w 64 && ltb 0 δ
+fits CipherFeedback w δ = eqb (w * (64 / w)) 64 && ltb 0 δ
+fits OutputFeedback w δ = eqb w 64 && ltb 0 δ
+
+fits-true : (f : Family) (w δ : ℕ) → fits f w δ ≡ true → Fit f w δ
+fits-true Codebook w δ e = eqb-true w 64 e
+fits-true Chaining w δ e = let p = and-parts _ _ e in (eqb-true w 64 (p .0), ltb-true 0 δ (p .1))
+fits-true CipherFeedback w δ e = let p = and-parts _ _ e in (eqb-true (w * (64 / w)) 64 (p .0), ltb-true 0 δ (p .1))
+fits-true OutputFeedback w δ e = let p = and-parts _ _ e in (eqb-true w 64 (p .0), ltb-true 0 δ (p .1))
+
+-- what is computed for the whole table holds of each mode
+
+abbrev passes : (Mode → Bool) → List Mode → Bool
+passes test [] = true
+passes test (m ∷ ms) = test m && passes test ms
+
+first-passes : (test : Mode → Bool) (code : ℕ) (ms : List Mode) (m : Mode) → firstWith code ms ≡ Some m → passes test ms ≡ true → test m ≡ true
+first-passes test code [] m e h = let z : _≡_ {A = ℕ} 0 1 = cc in absurd (omega arith)
+first-passes test code (n ∷ ms) m e h =
+    let p = and-parts (test n) (passes test ms) h in
+    ⊎-elim
+    (λ t. let same : n ≡ m = let q : Some n ≡ Some m = sym (cond-true _ _ _ t) ∙ e in cc in subst (λ x. test x ≡ true) same (p .0))
+    (λ t. first-passes test code ms m (sym (cond-false _ _ _ t) ∙ e) (p .1))
+    (cases-bool (eqb code (row n .code)))
+
+pub codes-name-modes : Codes-name-modes
+codes-name-modes = elim [
   | Ecb ↦ refl
-  | Cbc ↦ (refl, lit< tt)
-  | CbcInterleaved ↦ (refl, lit< tt)
-  | Cfb64 ↦ (refl, lit< tt)
-  | Cfb8 ↦ (refl, lit< tt)
-  | Cfb1 ↦ (refl, lit< tt)
-  | CfbPipelined64 ↦ (refl, lit< tt)
-  | CfbPipelined8 ↦ (refl, lit< tt)
-  | CfbPipelined1 ↦ (refl, lit< tt)
-  | Ofb ↦ (refl, lit< tt)
-  | OfbInterleaved ↦ (refl, lit< tt)
+  | Cbc ↦ refl
+  | CbcInterleaved ↦ refl
+  | Cfb64 ↦ refl
+  | Cfb8 ↦ refl
+  | Cfb1 ↦ refl
+  | CfbPipelined64 ↦ refl
+  | CfbPipelined8 ↦ refl
+  | CfbPipelined1 ↦ refl
+  | Ofb ↦ refl
+  | OfbInterleaved ↦ refl
 ]
+
+pub each-passes : (test : Mode → Bool) → passes test modes ≡ true → (m : Mode) → test m ≡ true
+each-passes test h m = first-passes test (row m .code) modes m (codes-name-modes m) h
+
+pub fit : (m : Mode) → Fit (row m .family) (row m .width) (row m .values)
+fit m =
+    fits-true (row m .family) (row m .width) (row m .values)
+    (each-passes (λ n. fits (row n .family) (row n .width) (row n .values)) refl m)
+
+pub code-is-byte : (m : Mode) → row m .code < 2 ^ 8
+code-is-byte m = ltb-true (row m .code) (2 ^ 8) (each-passes (λ n. ltb (row n .code) (2 ^ 8)) refl m)
 
 pub width-within : (m : Mode) → (0 < row m .width) × (row m .width ≤ 64)
-width-within = elim [
-  | Ecb ↦ (lit< tt, lit≤ tt)
-  | Cbc ↦ (lit< tt, lit≤ tt)
-  | CbcInterleaved ↦ (lit< tt, lit≤ tt)
-  | Cfb64 ↦ (lit< tt, lit≤ tt)
-  | Cfb8 ↦ (lit< tt, lit≤ tt)
-  | Cfb1 ↦ (lit< tt, lit≤ tt)
-  | CfbPipelined64 ↦ (lit< tt, lit≤ tt)
-  | CfbPipelined8 ↦ (lit< tt, lit≤ tt)
-  | CfbPipelined1 ↦ (lit< tt, lit≤ tt)
-  | Ofb ↦ (lit< tt, lit≤ tt)
-  | OfbInterleaved ↦ (lit< tt, lit≤ tt)
-]
+width-within m = (
+  ltb-true 0 (row m .width) (each-passes (λ n. ltb 0 (row n .width)) refl m),
+  leb-true (row m .width) 64 (each-passes (λ n. leb (row n .width) 64) refl m),
+)
 
 pub values-within : (m : Mode) → row m .values ≤ 3
-values-within = elim [
-  | Ecb ↦ lit≤ tt
-  | Cbc ↦ lit≤ tt
-  | CbcInterleaved ↦ lit≤ tt
-  | Cfb64 ↦ lit≤ tt
-  | Cfb8 ↦ lit≤ tt
-  | Cfb1 ↦ lit≤ tt
-  | CfbPipelined64 ↦ lit≤ tt
-  | CfbPipelined8 ↦ lit≤ tt
-  | CfbPipelined1 ↦ lit≤ tt
-  | Ofb ↦ lit≤ tt
-  | OfbInterleaved ↦ lit≤ tt
-]
+values-within m = leb-true (row m .values) 3 (each-passes (λ n. leb (row n .values) 3) refl m)
 
 -- no unit waits for its own result
 pub distance-proper : (m : Mode) (way : Way) → distanceOf m way ≡ Some 0 → ⊥

@@ -17,6 +17,7 @@ use Rattle.modes.specs.Bits.{leftmost, shifted}
 use Rattle.modes.specs.Table.{row}
 use Rattle.modes.specs.Results.{before, register, stream, output, ciphered, plain, enciphered, deciphered}
 use Rattle.modes.specs.Equations.{unit, Up-to, back, input, Enciphers, Deciphers, Equations}
+use Rattle.modes.proofs.Xor.{unmasked}
 use Rattle.modes.proofs.Grown.{length-grown, grown-at}
 use Rattle.modes.proofs.Fits.{Fit, fit}
 use Rattle.modes.proofs.Registers.{before-early, before-late, register-early, register-late}
@@ -144,19 +145,16 @@ module _ (F G : ℕ → ℕ) (w δ : ℕ) (ivs : List ℕ) (len : length ivs ≡
   deciphers : (f : Family) → Fit f w δ → Plain f → Deciphers f F G w δ (unit ivs) (unit ps) (unit cs) n
   deciphers Codebook fit h = up-to n _ h
   deciphers Chaining fit h = up-to n _ (λ k l. h k l ∙ ap (bitXor (G (getD cs k 0))) (back-is-before δ ivs cs k len))
-  deciphers CipherFeedback fit h = (inputs w ivs cs, (inputs-obey w δ ivs cs len (fit .1) n, up-to n _ h))
-  deciphers OutputFeedback fit h = (outputs F ivs, (outputs-obey F δ ivs n len (fit .1), up-to n _ h))
+  deciphers CipherFeedback fit h = enciphers CipherFeedback fit (λ k l. unmasked (getD ps k 0) (getD cs k 0) (leftmost w (F (register w ivs cs k))) (h k l))
+  deciphers OutputFeedback fit h = enciphers OutputFeedback fit (λ k l. unmasked (getD ps k 0) (getD cs k 0) (output F ivs k) (h k l))
 
   deciphered-by : (f : Family) → Fit f w δ → Deciphers f F G w δ (unit ivs) (unit ps) (unit cs) n → Plain f
   deciphered-by Codebook fit h k l = h (suc k) (omega arith) (omega arith)
   deciphered-by Chaining fit h k l =
       h (suc k) (omega arith) (omega arith) ∙ ap (bitXor (G (getD cs k 0))) (sym (back-is-before δ ivs cs k len))
   deciphered-by CipherFeedback fit h k l =
-      h .1 .1 (suc k) (omega arith) (omega arith)
-      ∙ ap (λ x. bitXor (getD cs k 0) (leftmost w (F x))) (inputs-only w δ ivs cs len (fit .1) (h .0) n (h .1 .0) k l)
-  deciphered-by OutputFeedback fit h k l =
-      h .1 .1 (suc k) (omega arith) (omega arith)
-      ∙ ap (bitXor (getD cs k 0)) (outputs-only F δ ivs (h .0) n len (fit .1) (h .1 .0) n (omega arith) k l)
+      unmasked (getD cs k 0) (getD ps k 0) (leftmost w (F (register w ivs cs k))) (enciphered-by CipherFeedback fit h k l)
+  deciphered-by OutputFeedback fit h k l = unmasked (getD cs k 0) (getD ps k 0) (output F ivs k) (enciphered-by OutputFeedback fit h k l)
 
 pub equations : Equations
 equations F G m ivs us len =

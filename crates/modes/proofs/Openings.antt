@@ -18,6 +18,7 @@ use Rattle.modes.specs.declared.values.InitialValues.the-variants.{Empty, One,
 use Rattle.modes.specs.declared.order.Order.{Order}
 use Rattle.modes.specs.Table.{row, withCode, Codes-name-modes}
 use Rattle.modes.specs.Values.{listed, blockAt, blocksIn, areBlocks, suits, Units, Begins}
+use Rattle.modes.proofs.Fits.{codes-name-modes, code-is-byte}
 use Rattle.modes.specs.Orders.{Opening, opening, opened, openedBy, checked, Orders-are-answers, Same-opening-same-order}
 
 -- what the type of an order says of its values
@@ -82,36 +83,6 @@ opened-by-bytes m values e =
     let n : length (listed values) ≡ row m .values = eqb-true _ _ (p .0) in
     cond-true _ _ _ (eq-eqb (length (bytesOf values)) (8 * row m .values) (length-bytes values ∙ ap (λ x. 8 * x) n))
     ∙ ap (λ x. Ok (record { mode = m; values = x })) (ap (λ x. blocksIn x (bytesOf values)) (sym n) ∙ blocks-in-bytes values (p .1))
-
-codes-name-modes : Codes-name-modes
-codes-name-modes = elim [
-  | Ecb ↦ refl
-  | Cbc ↦ refl
-  | CbcInterleaved ↦ refl
-  | Cfb64 ↦ refl
-  | Cfb8 ↦ refl
-  | Cfb1 ↦ refl
-  | CfbPipelined64 ↦ refl
-  | CfbPipelined8 ↦ refl
-  | CfbPipelined1 ↦ refl
-  | Ofb ↦ refl
-  | OfbInterleaved ↦ refl
-]
-
-code-is-byte : (m : Mode) → row m .code < 2 ^ 8
-code-is-byte = elim [
-  | Ecb ↦ lit< tt
-  | Cbc ↦ lit< tt
-  | CbcInterleaved ↦ lit< tt
-  | Cfb64 ↦ lit< tt
-  | Cfb8 ↦ lit< tt
-  | Cfb1 ↦ lit< tt
-  | CfbPipelined64 ↦ lit< tt
-  | CfbPipelined8 ↦ lit< tt
-  | CfbPipelined1 ↦ lit< tt
-  | Ofb ↦ lit< tt
-  | OfbInterleaved ↦ lit< tt
-]
 
 pub orders-are-answers : Orders-are-answers
 orders-are-answers o = (

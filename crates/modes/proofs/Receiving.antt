@@ -13,50 +13,54 @@ use Rattle.modes.specs.declared.family.Family.the-variants.{Codebook, Chaining
 use Rattle.modes.specs.declared.way.Way.{Way}
 use Rattle.modes.specs.declared.way.Way.the-variants.{Enciphering, Deciphering}
 use Rattle.modes.specs.Bits.{leftmost}
+use Rattle.modes.specs.declared.mode.Mode.{Mode}
 use Rattle.modes.specs.Table.{row, memory}
-use Rattle.modes.specs.Values.{Units}
-use Rattle.modes.specs.Results.{before, register, stream, output, ciphered, plain, enciphered, deciphered}
+use Rattle.modes.specs.Values.{Units, Begins}
+use Rattle.modes.specs.Results.{results, sent, received, before, register, stream, output, ciphered, plain, enciphered, deciphered}
 use Rattle.modes.specs.Laws.{Ends, Units-give-units, Prefix, Restoring, Recovery}
 use Rattle.modes.proofs.Grown.{length-grown, grown-at, grown-same, take-grown}
 use Rattle.modes.proofs.Fits.{Fit, fit, as-block, register-holds}
 use Rattle.modes.proofs.Registers.{before-late, register-below, register-whole}
 use Rattle.modes.proofs.Ciphered.{plain-same, output-block, enciphered-units, deciphered-units, deciphers-back}
 
-pub units-give-units : Units-give-units
-units-give-units F G u m Enciphering ivs us b h = (
-  length-grown (λ cs i. ciphered F (row m .family) (row m .width) ivs cs i (getD us i 0)) (length us),
-  enciphered-units F G u (row m .family) (row m .width) (row m .values) (fit m) ivs us (b .count) (b .blocks) h (length us) (omega arith),
-)
-units-give-units F G u m Deciphering ivs us b h = (
-  length-grown (λ _ i. plain F G (row m .family) (row m .width) ivs us i (getD us i 0)) (length us),
-  deciphered-units F G u (row m .family) (row m .width) (row m .values) (fit m) ivs us (b .count) (b .blocks) h (length us) (omega arith),
-)
+-- the lists of results, either way
 
--- the first n results come from the first n units
+module _ (F G : ℕ → ℕ) (m : Mode) where
+  pub length-results : (way : Way) (ivs us : List ℕ) (n : ℕ) → length (results F G m way ivs us n) ≡ n
+  length-results Enciphering ivs us n = length-grown _ n
+  length-results Deciphering ivs us n = length-grown _ n
 
-module _ (F G : ℕ → ℕ) (f : Family) (w : ℕ) (ivs us vs : List ℕ) (n : ℕ) (same : (i : ℕ) → i < n → getD us i 0 ≡ getD vs i 0) where
-  pub enciphered-front : enciphered F f w ivs us n ≡ enciphered F f w ivs vs n
-  enciphered-front =
-      let next : List ℕ → List ℕ → ℕ → ℕ = λ ps cs i. ciphered F f w ivs cs i (getD ps i 0) in
-      grown-same (next us) (next vs) n (λ i l. ap (ciphered F f w ivs (enciphered F f w ivs us i) i) (same i l))
+  pub take-results : (way : Way) (ivs us : List ℕ) (k n : ℕ) → k ≤ n → take k (results F G m way ivs us n) ≡ results F G m way ivs us k
+  take-results Enciphering ivs us k n l = take-grown _ k n l
+  take-results Deciphering ivs us k n l = take-grown _ k n l
 
-  pub deciphered-front : deciphered F G f w ivs us n ≡ deciphered F G f w ivs vs n
-  deciphered-front =
-      let next : List ℕ → List ℕ → ℕ → ℕ = λ cs _ i. plain F G f w ivs cs i (getD cs i 0) in
+  -- the first n results come from the first n units
+  pub results-same : (way : Way) (ivs us vs : List ℕ) (n : ℕ) → ((i : ℕ) → i < n → getD us i 0 ≡ getD vs i 0)
+      → results F G m way ivs us n ≡ results F G m way ivs vs n
+  results-same Enciphering ivs us vs n same =
+      let next : List ℕ → List ℕ → ℕ → ℕ = λ ps cs i. ciphered F (row m .family) (row m .width) ivs cs i (getD ps i 0) in
       grown-same (next us) (next vs) n
-      (λ i l. plain-same F G f w ivs us vs i (getD us i 0) (λ j q. same j (omega arith)) ∙ ap (plain F G f w ivs vs i) (same i l))
+      (λ i l. ap (ciphered F (row m .family) (row m .width) ivs (results F G m Enciphering ivs us i) i) (same i l))
+  results-same Deciphering ivs us vs n same =
+      let next : List ℕ → List ℕ → ℕ → ℕ = λ cs _ i. plain F G (row m .family) (row m .width) ivs cs i (getD cs i 0) in
+      grown-same (next us) (next vs) n
+      (λ i l. plain-same F G (row m .family) (row m .width) ivs us vs i (getD us i 0) (λ j q. same j (omega arith))
+      ∙ ap (plain F G (row m .family) (row m .width) ivs vs i) (same i l))
+
+  pub results-units : Undo F G → (way : Way) (ivs us : List ℕ) (n : ℕ) → Begins m ivs → Units (row m .width) us → n ≤ length us
+      → Units (row m .width) (results F G m way ivs us n)
+  results-units u Enciphering ivs us n b h l =
+      enciphered-units F G u (row m .family) (row m .width) (row m .values) (fit m) ivs us (b .count) (b .blocks) h n l
+  results-units u Deciphering ivs us n b h l =
+      deciphered-units F G u (row m .family) (row m .width) (row m .values) (fit m) ivs us (b .count) (b .blocks) h n l
+
+pub units-give-units : Units-give-units
+units-give-units F G u m way ivs us b h = (length-results F G m way ivs us (length us), results-units F G m u way ivs us (length us) b h (omega arith))
 
 pub prefix : Prefix
-prefix F G m Enciphering ivs us more =
-    let f = row m .family in
-    let w = row m .width in
-    take-grown (λ cs i. ciphered F f w ivs cs i (getD (us ++ more) i 0)) (length us) (length (us ++ more)) (omega (arith, length-append us more))
-    ∙ enciphered-front F G f w ivs (us ++ more) us (length us) (λ i l. getD-append-left us more 0 i l)
-prefix F G m Deciphering ivs us more =
-    let f = row m .family in
-    let w = row m .width in
-    take-grown (λ _ i. plain F G f w ivs (us ++ more) i (getD (us ++ more) i 0)) (length us) (length (us ++ more)) (omega (arith, length-append us more))
-    ∙ deciphered-front F G f w ivs (us ++ more) us (length us) (λ i l. getD-append-left us more 0 i l)
+prefix F G m way ivs us more =
+    take-results F G m way ivs (us ++ more) (length us) (length (us ++ more)) (omega (arith, length-append us more))
+    ∙ results-same F G m way ivs (us ++ more) us (length us) (λ i l. getD-append-left us more 0 i l)
 
 -- ciphers that are the same at every block give the same plain units
 
@@ -78,24 +82,26 @@ module _ (F G F′ G′ : ℕ → ℕ) (ends : Ends F G F′ G′) where
   plain-same-ends OutputFeedback w δ ivs cs i c fit len b hc = ap (bitXor c) (output-same ivs i (omega arith) b)
 
   -- what is received at place i
-  pub received-at : (f : Family) (w δ : ℕ) (ivs cs : List ℕ) (n i : ℕ) → Fit f w δ → length ivs ≡ δ → Units 64 ivs → Units w cs → n ≤ length cs → i < n
-      → getD (deciphered F′ G′ f w ivs cs n) i 0 ≡ plain F G f w ivs cs i (getD cs i 0)
-  received-at f w δ ivs cs n i fit len b h hn l =
-      grown-at (λ _ k. plain F′ G′ f w ivs cs k (getD cs k 0)) n i l
-      ∙ sym (plain-same-ends f w δ ivs cs i (getD cs i 0) fit len b (h i (omega arith)))
+  pub received-at : (m : Mode) (ivs cs : List ℕ) (i : ℕ) → Begins m ivs → Units (row m .width) cs → i < length cs
+      → getD (received F′ G′ m ivs cs) i 0 ≡ plain F G (row m .family) (row m .width) ivs cs i (getD cs i 0)
+  received-at m ivs cs i b h l =
+      grown-at _ (length cs) i l
+      ∙ sym (plain-same-ends (row m .family) (row m .width) (row m .values) ivs cs i (getD cs i 0) (fit m) (b .count) (b .blocks) (h i l))
+
+-- what was sent deciphers to its plain unit
+pub sent-back : (F G : ℕ → ℕ) → Undo F G → (m : Mode) (ivs ps : List ℕ) → Begins m ivs → Units (row m .width) ps → (i : ℕ) → i < length ps
+    → plain F G (row m .family) (row m .width) ivs (sent F G m ivs ps) i (getD (sent F G m ivs ps) i 0) ≡ getD ps i 0
+sent-back F G u m ivs ps b h i l =
+    deciphers-back F G u (row m .family) (row m .width) (row m .values) (fit m) ivs ps (b .count) (b .blocks) h (length ps) (omega arith) i l
 
 pub restoring : Restoring
 restoring F G F′ G′ ends m ivs ps b h =
-    let f = row m .family in
-    let w = row m .width in
-    let n = length ps in
-    let cs = enciphered F f w ivs ps n in
-    let len : length cs ≡ n = length-grown (λ xs i. ciphered F f w ivs xs i (getD ps i 0)) n in
-    let out : length (deciphered F′ G′ f w ivs cs (length cs)) ≡ length cs = length-grown (λ _ i. plain F′ G′ f w ivs cs i (getD cs i 0)) (length cs) in
-    let hc = enciphered-units F G (ends .undo) f w (row m .values) (fit m) ivs ps (b .count) (b .blocks) h n (omega arith) in
-    ext-getD 0 (deciphered F′ G′ f w ivs cs (length cs)) ps (out ∙ len)
-    (λ i l. received-at F G F′ G′ ends f w (row m .values) ivs cs (length cs) i (fit m) (b .count) (b .blocks) hc (omega arith) (omega arith)
-    ∙ deciphers-back F G (ends .undo) f w (row m .values) (fit m) ivs ps (b .count) (b .blocks) h n (omega arith) i (omega arith))
+    let cs = sent F G m ivs ps in
+    let len : length cs ≡ length ps = length-results F G m Enciphering ivs ps (length ps) in
+    let out : length (received F′ G′ m ivs cs) ≡ length cs = length-results F′ G′ m Deciphering ivs cs (length cs) in
+    let hc = results-units F G m (ends .undo) Enciphering ivs ps (length ps) b h (omega arith) in
+    ext-getD 0 (received F′ G′ m ivs cs) ps (out ∙ len)
+    (λ i l. received-at F G F′ G′ ends m ivs cs i b hc (omega arith) ∙ sent-back F G (ends .undo) m ivs ps b h i (omega arith))
 
 -- a plain unit rests on its own ciphered unit and on as many before it as the memory says
 plain-rests : (F G : ℕ → ℕ) (f : Family) (w δ r : ℕ) → Fit f w δ → memory f w δ ≡ Some r → (ivs ivs′ xs ys : List ℕ) (a s : ℕ) → length ivs ≡ δ → length ivs′ ≡ δ
@@ -130,11 +136,9 @@ pub recovery : Recovery
 recovery F G F′ G′ ends m r mem ivs ivs′ ps xs b b′ hp hx i j ri hi rj hj eq =
     let f = row m .family in
     let w = row m .width in
-    let δ = row m .values in
-    let n = length ps in
-    let cs = enciphered F f w ivs ps n in
-    let len : length cs ≡ n = length-grown (λ ys k. ciphered F f w ivs ys k (getD ps k 0)) n in
-    let hc = enciphered-units F G (ends .undo) f w δ (fit m) ivs ps (b .count) (b .blocks) hp n (omega arith) in
+    let cs = sent F G m ivs ps in
+    let len : length cs ≡ length ps = length-results F G m Enciphering ivs ps (length ps) in
+    let hc = results-units F G m (ends .undo) Enciphering ivs ps (length ps) b hp (omega arith) in
     let ei : i - r + r ≡ i = omega arith in
     let ej : j - r + r ≡ j = omega arith in
     let window : (k : ℕ) → k ≤ r → (getD xs (j - r + k) 0 ≡ getD cs (i - r + k) 0) × (getD cs (i - r + k) 0 < 2 ^ w) =
@@ -144,8 +148,8 @@ recovery F G F′ G′ ends m r mem ivs ivs′ ps xs b b′ hp hx i j ri hi rj h
       ap (λ x. getD xs x 0) (sym kj) ∙ eq (r - k) (omega arith) ∙ ap (λ x. getD cs x 0) ki,
       hc (i - r + k) (omega arith),
     ) in
-    received-at F G F′ G′ ends f w δ ivs′ xs (length xs) j (fit m) (b′ .count) (b′ .blocks) hx (omega arith) hj
+    received-at F G F′ G′ ends m ivs′ xs j b′ hx hj
     ∙ ap (λ x. plain F G f w ivs′ xs x (getD xs x 0)) (sym ej)
-    ∙ plain-rests F G f w δ r (fit m) mem ivs′ ivs xs cs (j - r) (i - r) (b′ .count) (b .count) window
+    ∙ plain-rests F G f w (row m .values) r (fit m) mem ivs′ ivs xs cs (j - r) (i - r) (b′ .count) (b .count) window
     ∙ ap (λ x. plain F G f w ivs cs x (getD cs x 0)) ei
-    ∙ deciphers-back F G (ends .undo) f w δ (fit m) ivs ps (b .count) (b .blocks) hp n (omega arith) i hi
+    ∙ sent-back F G (ends .undo) m ivs ps b hp i hi

@@ -6,6 +6,10 @@ use lib.Bits.{bitXor, xor-self, xor-zero-r, xor-zero-l, xor-assoc, xor-comm}
 pub xor-twice : (a b : ℕ) → bitXor (bitXor a b) b ≡ a
 xor-twice a b = xor-assoc a b b ∙ ap (bitXor a) (xor-self b) ∙ xor-zero-r a
 
+-- a mask taken off again
+pub unmasked : (a b k : ℕ) → a ≡ bitXor b k → b ≡ bitXor a k
+unmasked a b k e = sym (xor-twice b k) ∙ ap (λ x. bitXor x k) (sym e)
+
 pub xor-last-two : (a b c : ℕ) → bitXor (bitXor a b) c ≡ bitXor (bitXor a c) b
 xor-last-two a b c = xor-assoc a b c ∙ ap (bitXor a) (xor-comm b c) ∙ sym (xor-assoc a c b)
 

@@ -39,13 +39,12 @@ Enciphers CipherFeedback F w δ IV P C n =
 Enciphers OutputFeedback F w δ IV P C n =
     (O : ℕ → ℕ) × (Up-to n (λ i. O i ≡ F (back δ IV O i)) × Up-to n (λ i. C i ≡ bitXor (P i) (O i)))
 
+-- the feedback families have the same equations both ways, and use the cipher forward only
 abbrev pub Deciphers : Family → (ℕ → ℕ) → (ℕ → ℕ) → ℕ → ℕ → (ℕ → ℕ) → (ℕ → ℕ) → (ℕ → ℕ) → ℕ → Type 0
 Deciphers Codebook F G w δ IV P C n = Up-to n (λ i. P i ≡ G (C i))
 Deciphers Chaining F G w δ IV P C n = Up-to n (λ i. P i ≡ bitXor (G (C i)) (back δ IV C i))
-Deciphers CipherFeedback F G w δ IV P C n =
-    (I : ℕ → ℕ) × (Up-to n (λ i. I i ≡ input w δ IV C I i) × Up-to n (λ i. P i ≡ bitXor (C i) (leftmost w (F (I i)))))
-Deciphers OutputFeedback F G w δ IV P C n =
-    (O : ℕ → ℕ) × (Up-to n (λ i. O i ≡ F (back δ IV O i)) × Up-to n (λ i. P i ≡ bitXor (C i) (O i)))
+Deciphers CipherFeedback F G w δ IV P C n = Enciphers CipherFeedback F w δ IV P C n
+Deciphers OutputFeedback F G w δ IV P C n = Enciphers OutputFeedback F w δ IV P C n
 
 -- the lists ps and cs obey the equations of a mode, from ps to cs or from cs to ps
 abbrev pub From-plain : (ℕ → ℕ) → Mode → List ℕ → List ℕ → List ℕ → Type 0
