@@ -19,24 +19,20 @@ impl InitialValues {
         ensures { λ r. ⌜ r ≡ length (listed self) ⌝ }
     {
         match self {
-            InitialValues::Empty => 0,
-            InitialValues::One(_) => 1,
-            InitialValues::Three(_, _, _) => 3,
+            Self::Empty => 0,
+            Self::One(_) => 1,
+            Self::Three(_, _, _) => 3,
         }
     }
 
     /// The values that lie in some bytes, eight bytes each, highest byte first; none where the bytes are too few or too many.
-    pub(crate) fn read(bytes: &[u8]) -> Option<InitialValues>
+    pub(crate) fn read(bytes: &[u8]) -> Option<Self>
         ensures { λ r. ⌜ r ≡ valuesIn (now (bytes .entry)) ⌝ }
     {
         match bytes.len() {
-            0 => Some(InitialValues::Empty),
-            8 => Some(InitialValues::One(block_at(bytes, 0))),
-            24 => Some(InitialValues::Three(
-                block_at(bytes, 0),
-                block_at(bytes, 8),
-                block_at(bytes, 16),
-            )),
+            0 => Some(Self::Empty),
+            8 => Some(Self::One(block_at(bytes, 0))),
+            24 => Some(Self::Three(block_at(bytes, 0), block_at(bytes, 8), block_at(bytes, 16))),
             _ => None,
         }
     }
