@@ -12,6 +12,10 @@ pub enum Refusal {
     KeyParity(usize),
     /// A bundle whose three keys are the same.
     SameKeys,
+    /// A code that names no mode. Holds the code.
+    UnknownCode(u8),
+    /// Initial values of another length than the mode's. Holds the length.
+    InitialValueLength(usize),
 }
 
 impl Refusal {
@@ -23,6 +27,8 @@ impl Refusal {
             Refusal::KeyLength(_) => 1,
             Refusal::KeyParity(_) => 2,
             Refusal::SameKeys => 3,
+            Refusal::UnknownCode(_) => 4,
+            Refusal::InitialValueLength(_) => 5,
         }
     }
 
@@ -34,6 +40,8 @@ impl Refusal {
             Refusal::KeyLength(length) => length as u64,
             Refusal::KeyParity(index) => index as u64,
             Refusal::SameKeys => 0,
+            Refusal::UnknownCode(code) => u64::from(code),
+            Refusal::InitialValueLength(length) => length as u64,
         }
     }
 }
@@ -44,6 +52,10 @@ pub impl fmt::Display for Refusal as RefusalDisplay {
             Refusal::KeyLength(length) => write!(f, "a key cannot have {length} bytes"),
             Refusal::KeyParity(index) => write!(f, "key byte {index} has an even count of ones"),
             Refusal::SameKeys => write!(f, "the three keys of the bundle are the same"),
+            Refusal::UnknownCode(code) => write!(f, "no mode has the code {code}"),
+            Refusal::InitialValueLength(length) => {
+                write!(f, "the mode's initial values cannot have {length} bytes")
+            }
         }
     }
 }

@@ -1,0 +1,56 @@
+//! The initial values of a run, read from bytes.
+ghost use mathlib.Core.Path.{_≡_};
+ghost use Prim.Native.Nat.{ℕ, _+_, _≤_};
+ghost use lib.ListN.{length};
+ghost use Rattle.modes.specs.Values.{listed, blockAt, valuesIn};
+use cipher::Block;
+
+/// As many initial values as a mode has: none, one or three.
+#[derive(Clone, Copy)]
+pub enum InitialValues {
+    Empty,
+    One(Block),
+    Three(Block, Block, Block),
+}
+
+impl InitialValues {
+    /// How many there are.
+    pub(crate) fn count(self) -> usize
+        ensures { λ r. ⌜ r ≡ length (listed self) ⌝ }
+    {
+        match self {
+            Self::Empty => 0,
+            Self::One(_) => 1,
+            Self::Three(_, _, _) => 3,
+        }
+    }
+
+    /// The values that lie in some bytes, eight bytes each, highest byte first; none where the bytes are too few or too many.
+    pub(crate) fn read(bytes: &[u8]) -> Option<Self>
+        ensures { λ r. ⌜ r ≡ valuesIn (now (bytes .entry)) ⌝ }
+    {
+        match bytes.len() {
+            0 => Some(Self::Empty),
+            8 => Some(Self::One(block_at(bytes, 0))),
+            24 => Some(Self::Three(block_at(bytes, 0), block_at(bytes, 8), block_at(bytes, 16))),
+            _ => None,
+        }
+    }
+}
+
+// The block in the eight bytes from place `at`, highest byte first.
+fn block_at(bytes: &[u8], at: usize) -> Block
+    requires { ⌜ at + 8 ≤ length (now bytes) ⌝ }
+    ensures { λ r. ⌜ r ≡ blockAt (now (bytes .entry)) at ⌝ }
+{
+    u64::from_be_bytes([
+        bytes[at],
+        bytes[at + 1],
+        bytes[at + 2],
+        bytes[at + 3],
+        bytes[at + 4],
+        bytes[at + 5],
+        bytes[at + 6],
+        bytes[at + 7],
+    ])
+}
