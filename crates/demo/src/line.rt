@@ -14,7 +14,7 @@ use engines::work::Direction;
 use engines::work::Work;
 use std::io;
 
-// What goes in: two blocks in a row, a gap, a block of the other direction, and empty cycles until all are out.
+// Two blocks in a row, a gap, one of each direction in a row, and empty cycles until all are out.
 const INPUTS: [Option<Work>; 8] = [
     Some(Work {
         block: 0x0123_4567_89AB_CDEF,
