@@ -8,7 +8,7 @@ use Rattle.std.proofs.shelf.Bits.{le-div, mul-le}
 use Rattle.std.proofs.shelf.Tests.{cases-lt}
 use Rattle.std.specs.declared.option.Option.{Option}
 use Rattle.std.specs.declared.option.Option.the-variants.{Some, None}
-use Rattle.modes.specs.Schedule.{entry, leaving, cost, drain, May-enter, Ruled, Schedule}
+use Rattle.modes.specs.Schedule.{entry, leaving, cost, May-enter, Schedule}
 
 pub entry-next : (D : ℕ) (δ : Option ℕ) (j : ℕ) → entry D δ j + 1 ≤ entry D δ (j + 1)
 entry-next D None j = omega arith

@@ -1,5 +1,5 @@
 -- The published equations hold of what is sent and received.
-use mathlib.Core.Path.{_≡_, refl, sym, ap, _∙_}
+use mathlib.Core.Path.{_≡_, sym, ap, _∙_}
 use mathlib.Core.List.{List}
 use mathlib.Core.Bool.{cond}
 use mathlib.Core.Logic.{⊎-elim}
@@ -12,7 +12,6 @@ use Rattle.std.proofs.shelf.Lists.{ext-getD}
 use Rattle.std.proofs.shelf.Tests.{cases-lt, le-leb, lt-leb, cond-true, cond-false}
 use Rattle.modes.specs.declared.family.Family.{Family}
 use Rattle.modes.specs.declared.family.Family.the-variants.{Codebook, Chaining, CipherFeedback, OutputFeedback}
-use Rattle.modes.specs.declared.mode.Mode.{Mode}
 use Rattle.modes.specs.Bits.{leftmost, shifted}
 use Rattle.modes.specs.Table.{row}
 use Rattle.modes.specs.Results.{before, register, stream, output, ciphered, plain, enciphered, deciphered}

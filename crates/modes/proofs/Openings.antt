@@ -1,25 +1,22 @@
 -- Every order answers some code and bytes, and an order is what it says.
-use mathlib.Core.Path.{_≡_, refl, sym, ap, subst, _∙_}
+use mathlib.Core.Path.{_≡_, refl, sym, ap, _∙_}
 use mathlib.Core.HLevel.{isProp→PathP}
-use mathlib.Core.List.{List, [], _∷_, _++_, map}
-use mathlib.Core.Bool.{Bool, true, cond, _&&_, Bool-set}
+use mathlib.Core.List.{List, [], _∷_, map}
+use mathlib.Core.Bool.{true, Bool-set}
 use Prim.Native.Nat.{ℕ, zero, suc, _+_, _*_, _/_, _%_, _^_, _<_}
 use native.Mathlib.Omega.{arith}
 use lib.Dec.{eqb, lit<}
 use lib.ListN.{length, getD}
 use Rattle.std.proofs.shelf.Bits.{mod-below}
 use Rattle.std.proofs.shelf.Tests.{eqb-true, eq-eqb, ltb-true, and-parts, cond-true}
-use Rattle.std.specs.declared.result.Result.the-variants.{Ok, Err}
-use Rattle.refusals.specs.declared.Refusal.the-variants.{InitialValueLength}
+use Rattle.std.specs.declared.result.Result.the-variants.{Ok}
 use Rattle.modes.specs.declared.mode.Mode.{Mode}
-use Rattle.modes.specs.declared.mode.Mode.the-variants.{Ecb, Cbc, CbcInterleaved, Cfb64, Cfb8, Cfb1, CfbPipelined64, CfbPipelined8, CfbPipelined1, Ofb, OfbInterleaved}
 use Rattle.modes.specs.declared.values.InitialValues.{InitialValues}
 use Rattle.modes.specs.declared.values.InitialValues.the-variants.{Empty, One, Three}
-use Rattle.modes.specs.declared.order.Order.{Order}
-use Rattle.modes.specs.Table.{row, withCode, Codes-name-modes}
+use Rattle.modes.specs.Table.{row}
 use Rattle.modes.specs.Values.{listed, blockAt, blocksIn, areBlocks, suits, Units, Begins}
 use Rattle.modes.proofs.Fits.{codes-name-modes, code-is-byte}
-use Rattle.modes.specs.Orders.{Opening, opening, opened, openedBy, checked, Orders-are-answers, Same-opening-same-order}
+use Rattle.modes.specs.Orders.{opened, openedBy, Orders-are-answers, Same-opening-same-order}
 
 -- what the type of an order says of its values
 

@@ -1,7 +1,7 @@
 -- What a receiver gets: units for units, the front of a longer list, the sender's list, and the way back after a gap.
-use mathlib.Core.Path.{_≡_, refl, sym, ap, subst, _∙_}
+use mathlib.Core.Path.{_≡_, sym, ap, _∙_}
 use mathlib.Core.List.{List, _++_}
-use Prim.Native.Nat.{ℕ, zero, suc, _+_, _-_, _*_, _/_, _^_, _<_, _≤_}
+use Prim.Native.Nat.{ℕ, zero, suc, _+_, _-_, _/_, _^_, _<_, _≤_}
 use native.Mathlib.Omega.{arith}
 use lib.ListN.{length, getD, take}
 use lib.Bits.{bitXor}
@@ -16,7 +16,7 @@ use Rattle.modes.specs.Bits.{leftmost}
 use Rattle.modes.specs.declared.mode.Mode.{Mode}
 use Rattle.modes.specs.Table.{row, memory}
 use Rattle.modes.specs.Values.{Units, Begins}
-use Rattle.modes.specs.Results.{results, sent, received, before, register, stream, output, ciphered, plain, enciphered, deciphered}
+use Rattle.modes.specs.Results.{results, sent, received, before, register, output, ciphered, plain}
 use Rattle.modes.specs.Laws.{Ends, Units-give-units, Prefix, Restoring, Recovery}
 use Rattle.modes.proofs.Grown.{length-grown, grown-at, grown-same, take-grown}
 use Rattle.modes.proofs.Fits.{Fit, fit, as-block, register-holds}

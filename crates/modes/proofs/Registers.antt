@@ -1,13 +1,11 @@
 -- What stands at the distance before a place, and the register of cipher feedback.
-use mathlib.Core.Path.{_≡_, refl, sym, ap, _∙_}
-use mathlib.Core.List.{List, [], _∷_, _++_}
-use mathlib.Core.Bool.{Bool, true, false, cond}
+use mathlib.Core.Path.{_≡_, sym, ap, _∙_}
+use mathlib.Core.List.{List}
 use mathlib.Core.Logic.{⊎-elim}
 use Prim.Native.Nat.{ℕ, zero, suc, _+_, _-_, _*_, _/_, _%_, _^_, _<_, _≤_}
 use native.Mathlib.Omega.{arith}
 use native.Mathlib.Nat.{mod-one, mod-mod, mod-lt, suc-mul, zero-mul}
 use lib.ListN.{length, getD}
-use lib.Dec.{ltb}
 use Rattle.std.proofs.shelf.Bits.{mod-pow-add, mod-low, shr-high, pow-pos}
 use Rattle.std.proofs.shelf.Lists.{getD-append-left, getD-append-add}
 use Rattle.std.proofs.shelf.Tests.{cases-lt, le-ltb, lt-ltb, cond-true, cond-false}

@@ -1,7 +1,7 @@
 -- Worked values of the definitions.
 use mathlib.Core.Path.{_≡_}
 use mathlib.Core.List.{List, [], _∷_}
-use Prim.Native.Nat.{ℕ, _+_}
+use Prim.Native.Nat.{ℕ}
 use Rattle.std.specs.declared.option.Option.the-variants.{Some}
 use Rattle.modes.specs.Bits.{shifted}
 use Rattle.modes.specs.Schedule.{drained}

@@ -1,6 +1,6 @@
 //! The four families of modes. Each has one set of equations, over the width of a unit and the distance.
 ghost use mathlib.Core.Path.{_≡_};
-ghost use Prim.Native.Nat.{ℕ, _+_, _<_, _≤_};
+ghost use Prim.Native.Nat.{_+_, _<_, _≤_};
 ghost use Rattle.modes.specs.Table.{distance, memory, reach};
 use super::reach::Reach;
 use super::way::Way;

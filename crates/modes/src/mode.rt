@@ -1,6 +1,6 @@
 //! The eleven modes and the table of their figures.
 ghost use mathlib.Core.Path.{_≡_};
-ghost use Prim.Native.Nat.{ℕ, _<_, _≤_};
+ghost use Prim.Native.Nat.{_<_, _≤_};
 ghost use Rattle.std.specs.declared.option.Option.the-variants.{Some};
 ghost use Rattle.modes.specs.Table.{row, withCode, named, distanceOf, memoryOf, reachOf, Codes-name-modes};
 ghost use Rattle.modes.specs.Bits.{leftmost, shifted};
