@@ -1,7 +1,7 @@
 //! The line, cycle by cycle.
+use crate::loading::load_bundle;
 use cipher::Block;
-use cipher::Cipher;
-use cipher::triple::Triple;
+use cipher::dea::blocks::DeaCipher;
 use cipher::triple::TripleCipher;
 use engines::engine::Engine;
 use engines::line::Line;
@@ -12,6 +12,7 @@ use engines::table::BlockState;
 use engines::table::Stage;
 use engines::work::Direction;
 use engines::work::Work;
+use std::error::AnyError;
 use std::io;
 
 // Two blocks in a row, a gap, one of each direction in a row, and empty cycles until all are out.
@@ -73,15 +74,12 @@ fn show_answer(rt: &LibcRuntime, answer: Option<Block>, wanted: Option<Block>) -
     }
 }
 
-/// For each cycle: what goes in, what then stands in each functional block, what comes out, and whether that is what the
-/// triple itself answered two cycles before.
-pub fn show<A: Cipher + Drop, B: Cipher + Drop, C: Cipher + Drop>(
-    rt: &LibcRuntime,
-    line: Line<A, B, C>,
-    triple: Triple<A, B, C>,
-) -> io::Result<()> {
-    let mut line = line;
-    let mut triple = Plain::new(triple);
+/// The line of the example's three keys at work. For each cycle: what goes in, what then stands in each functional block, what comes
+/// out, and whether that is what the triple itself answered two cycles before.
+pub fn show(rt: &LibcRuntime) -> Result<(), AnyError> {
+    let (first, second, third) = load_bundle(rt)?.into_ciphers();
+    let mut line = Line::new(first, second, third);
+    let mut triple = Plain::new(load_bundle(rt)?.into_cipher());
     let mut before = None;
     let mut last = None;
     println!(

@@ -14,7 +14,8 @@ use Rattle.modes.specs.declared.mode.Mode.{Mode}
 use Rattle.modes.specs.declared.values.InitialValues.{InitialValues}
 use Rattle.modes.specs.declared.values.InitialValues.the-variants.{Empty, One, Three}
 use Rattle.modes.specs.Table.{row}
-use Rattle.modes.specs.Values.{listed, blockAt, blocksIn, areBlocks, suits, Units, Begins}
+use Rattle.cipher.specs.Bytes.{block-at}
+use Rattle.modes.specs.Values.{listed, blocksIn, areBlocks, suits, Units, Begins}
 use Rattle.modes.proofs.Fits.{codes-name-modes, code-is-byte}
 use Rattle.modes.specs.Orders.{opened, openedBy, Orders-are-answers, Same-opening-same-order}
 
@@ -70,8 +71,8 @@ blocks-in-bytes values e = inside values (are-blocks (listed values) e)
         let ea = eight-digits a (h 0 (lit< tt)) in
         let eb = eight-digits b (h 1 (lit< tt)) in
         let ec = eight-digits c (h 2 (lit< tt)) in
-        ap (λ x. x ∷ blockAt (bytesOf (Three a b c)) 8 ∷ blockAt (bytesOf (Three a b c)) 16 ∷ []) ea
-        ∙ ap (λ x. a ∷ x ∷ blockAt (bytesOf (Three a b c)) 16 ∷ []) eb ∙ ap (λ x. a ∷ b ∷ x ∷ []) ec
+        ap (λ x. x ∷ block-at (bytesOf (Three a b c)) 8 ∷ block-at (bytesOf (Three a b c)) 16 ∷ []) ea
+        ∙ ap (λ x. a ∷ x ∷ block-at (bytesOf (Three a b c)) 16 ∷ []) eb ∙ ap (λ x. a ∷ b ∷ x ∷ []) ec
 
 opened-by-bytes : (m : Mode) (values : InitialValues) → suits m values ≡ true
     → opened m (bytesOf values) ≡ Ok (record { mode = m; values = listed values })

@@ -10,6 +10,7 @@ use Rattle.std.specs.declared.option.Option.the-variants.{Some, None}
 use Rattle.modes.specs.declared.values.InitialValues.{InitialValues}
 use Rattle.modes.specs.declared.values.InitialValues.the-variants.{Empty, One, Three}
 use Rattle.modes.specs.declared.mode.Mode.{Mode}
+use Rattle.cipher.specs.Bytes.{block-at}
 use Rattle.modes.specs.Table.{row}
 
 abbrev pub listed : InitialValues → List ℕ
@@ -17,23 +18,17 @@ listed Empty = []
 listed (One a) = a ∷ []
 listed (Three a b c) = a ∷ b ∷ c ∷ []
 
--- the block in the eight bytes from place p
-abbrev pub blockAt : List ℕ → ℕ → ℕ
-blockAt bytes p =
-    getD bytes p 0 * 2 ^ 56 + getD bytes (p + 1) 0 * 2 ^ 48 + getD bytes (p + 2) 0 * 2 ^ 40 + getD bytes (p + 3) 0 * 2 ^ 32
-    + getD bytes (p + 4) 0 * 2 ^ 24 + getD bytes (p + 5) 0 * 2 ^ 16 + getD bytes (p + 6) 0 * 2 ^ 8 + getD bytes (p + 7) 0
-
 -- the values in some bytes, where there are 0, 8 or 24
 abbrev pub valuesIn : List ℕ → Option InitialValues
 valuesIn bytes =
     cond (eqb (length bytes) 0) (Some Empty)
-    (cond (eqb (length bytes) 8) (Some (One (blockAt bytes 0)))
-    (cond (eqb (length bytes) 24) (Some (Three (blockAt bytes 0) (blockAt bytes 8) (blockAt bytes 16))) None))
+    (cond (eqb (length bytes) 8) (Some (One (block-at bytes 0)))
+    (cond (eqb (length bytes) 24) (Some (Three (block-at bytes 0) (block-at bytes 8) (block-at bytes 16))) None))
 
 -- the first n blocks in some bytes
 abbrev pub blocksIn : ℕ → List ℕ → List ℕ
 blocksIn zero bytes = []
-blocksIn (suc n) bytes = blocksIn n bytes ++ blockAt bytes (8 * n) ∷ []
+blocksIn (suc n) bytes = blocksIn n bytes ++ block-at bytes (8 * n) ∷ []
 
 -- each of some numbers is a block
 abbrev pub areBlocks : List ℕ → Bool

@@ -1,5 +1,4 @@
 -- Worked values of the definitions.
-use mathlib.Core.Path.{_≡_}
 use mathlib.Core.List.{List, [], _∷_}
 use Prim.Native.Nat.{ℕ}
 use Rattle.std.specs.declared.option.Option.the-variants.{Some}
@@ -15,8 +14,3 @@ worked =
     ∷ (drained 3 (Some 3) 4, 6)
     ∷ (drained 5 (Some 3) 7, 15)
     ∷ []
-
--- each row is right
-abbrev pub Each : List (ℕ × ℕ) → Type 0
-Each [] = Unit {0}
-Each (r ∷ rows) = (r .0 ≡ r .1) × Each rows

@@ -2,8 +2,9 @@
 ghost use mathlib.Core.Path.{_≡_};
 ghost use Prim.Native.Nat.{_+_, _≤_};
 ghost use lib.ListN.{length};
-ghost use Rattle.modes.specs.Values.{listed, blockAt, valuesIn};
+ghost use Rattle.modes.specs.Values.{listed, valuesIn};
 use cipher::Block;
+use cipher::bytes::block_at;
 
 /// As many initial values as a mode has: none, one or three.
 #[derive(Clone, Copy)]
@@ -31,26 +32,13 @@ impl InitialValues {
     {
         match bytes.len() {
             0 => Some(Self::Empty),
-            8 => Some(Self::One(block_at(bytes, 0))),
-            24 => Some(Self::Three(block_at(bytes, 0), block_at(bytes, 8), block_at(bytes, 16))),
+            8 => Some(Self::One(block_at(bytes, 0)?)),
+            24 => Some(Self::Three(
+                block_at(bytes, 0)?,
+                block_at(bytes, 8)?,
+                block_at(bytes, 16)?,
+            )),
             _ => None,
         }
     }
-}
-
-// The block in the eight bytes from place `at`, highest byte first.
-fn block_at(bytes: &[u8], at: usize) -> Block
-    requires { ⌜ at + 8 ≤ length (now bytes) ⌝ }
-    ensures { λ r. ⌜ r ≡ blockAt (now (bytes .entry)) at ⌝ }
-{
-    u64::from_be_bytes([
-        bytes[at],
-        bytes[at + 1],
-        bytes[at + 2],
-        bytes[at + 3],
-        bytes[at + 4],
-        bytes[at + 5],
-        bytes[at + 6],
-        bytes[at + 7],
-    ])
 }

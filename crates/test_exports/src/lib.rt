@@ -1,4 +1,6 @@
-//! What tests and measurements call from C: triple DEA over blocks in place. No product code rests on this crate.
+//! What tests and measurements call from C: triple DEA over blocks in place, and what the speed of a line is compared with. No product code rests on this crate.
+pub mod speeds;
+
 ghost use mathlib.Core.Path.{_≡_};
 ghost use mathlib.Core.List.{map};
 ghost use lib.ListN.{length, replicate};

@@ -9,6 +9,14 @@ use refusals::RefusalDisplay;
 use std::fmt;
 use std::io;
 
+/// Three initial values, eight bytes each.
+#[rattlefmt::skip]
+const VALUES: [u8; 24] = [
+    0x12, 0x34, 0x56, 0x78, 0x90, 0xAB, 0xCD, 0xEF,
+    0x67, 0x89, 0xAB, 0xCD, 0xE6, 0x01, 0x23, 0x44,
+    0xBC, 0xDF, 0x01, 0x23, 0x3B, 0x56, 0x78, 0x99,
+];
+
 // A figure of the table that some modes do not have.
 #[derive(Clone, Copy)]
 struct Figure(Option<usize>);
@@ -81,48 +89,22 @@ fn show_opening(rt: &LibcRuntime, code: u8, bytes: &[u8]) -> io::Result<()> {
 }
 
 pub fn show(rt: &LibcRuntime) -> io::Result<()> {
-    println!(rt, "The modes")?;
+    println!(rt, "the modes:")?;
     for code in 0..=12u8 {
         if let Some(mode) = Mode::from_code(code) {
             show_mode(rt, mode)?;
         }
     }
     println!(rt, "")?;
-    println!(rt, "Openings")?;
-    let bytes = [
-        0x12u8,
-        0x34,
-        0x56,
-        0x78,
-        0x90,
-        0xAB,
-        0xCD,
-        0xEF,
-        0x67,
-        0x89,
-        0xAB,
-        0xCD,
-        0xE6,
-        0x01,
-        0x23,
-        0x44,
-        0xBC,
-        0xDF,
-        0x01,
-        0x23,
-        0x3B,
-        0x56,
-        0x78,
-        0x99,
-    ];
+    println!(rt, "openings:")?;
     show_opening(rt, 1, &[])?;
-    show_opening(rt, 5, &bytes[0..8])?;
-    show_opening(rt, 11, &bytes)?;
+    show_opening(rt, 5, &VALUES[0..8])?;
+    show_opening(rt, 11, &VALUES)?;
     show_opening(rt, 0, &[])?;
-    show_opening(rt, 12, &bytes)?;
-    show_opening(rt, 1, &bytes[0..8])?;
-    show_opening(rt, 3, &bytes[0..8])?;
-    show_opening(rt, 10, &bytes[0..7])?;
+    show_opening(rt, 12, &VALUES)?;
+    show_opening(rt, 1, &VALUES[0..8])?;
+    show_opening(rt, 3, &VALUES[0..8])?;
+    show_opening(rt, 10, &VALUES[0..7])?;
     println!(rt, "")?;
     let worked = worked_values();
     println!(
