@@ -16,5 +16,5 @@ loop-number-again c =
     let k : ℕ = c .args .times - (i + 1) in
     let more : suc k ≡ c .args .times - i = omega arith in
     let here : c .forward-all .result ≡ forward-of third (inverse-of second (forward-of first i)) =
-        c .forward-all .ensures ∙ ap (forward-of third) (c .inverse .ensures ∙ ap (inverse-of second) (c .forward .ensures)) in
+    c .forward-all .ensures ∙ ap (forward-of third) (c .inverse .ensures ∙ ap (inverse-of second) (c .forward .ensures)) in
     ap (λ (x : ℕ). called k (i + 1) first second third (bitXor all x)) here ∙ ap (λ (n : ℕ). called n i first second third all) more ∙ c .loop-number .inv
