@@ -1,0 +1,5 @@
+pub mod Rings
+pub mod Steps
+pub mod Views
+pub mod Standing
+pub mod Stands

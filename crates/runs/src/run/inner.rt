@@ -1,0 +1,42 @@
+//! One cycle of a run, and cycles one after the other.
+ghost use mathlib.Core.Path.{_≡_};
+ghost use Prim.Native.Nat.{_+_, _≤_};
+ghost use lib.ListN.{length};
+ghost use Rattle.calls.specs.Limits.{unit-limit};
+ghost use Rattle.runs.specs.Rings.{items, one-if};
+ghost use Rattle.runs.specs.Views.{view, Kept};
+ghost use Rattle.runs.specs.Standing.{Cycled};
+ghost use Rattle.runs.specs.Stands.{Same-engine, written};
+use super::Run;
+use engines::engine::Engine;
+
+impl<E: Engine, W> Run<E, W> {
+    /// One cycle: a unit or none goes in, a unit or none comes out.
+    pub(crate) fn cycle(&mut self, unit: Option<u64>) -> Option<u64>
+        requires { ⌜ now self .frame .before + now self .frame .taken + one-if unit ≤ unit-limit ⌝ }
+        ensures cycled { λ r. ⌜ Cycled (E·Engine .machine (now (self .entry) .engine)) (E·Engine .machine (now (self .exit) .engine)) (now (self .entry) .frame .mode) (now (self .entry) .frame .way) (view (now (self .entry) .frame)) (view (now (self .exit) .frame)) unit r ⌝ }
+        ensures same { λ _. ⌜ Same-engine (E·Engine .machine (now (self .entry) .engine)) (E·Engine .machine (now (self .exit) .engine)) × Kept (now (self .entry) .frame) (now (self .exit) .frame) ⌝ }
+        ensures most { λ r. ⌜ length (items (now (self .exit) .frame .pending)) + one-if r ≤ length (items (now (self .entry) .frame .pending)) + one-if unit ⌝ }
+        ensures count { λ _. ⌜ now (self .exit) .frame .taken ≡ now (self .entry) .frame .taken + one-if unit ⌝ }
+    {
+        let input = self.frame.admit(unit);
+        let answer = self.engine.clock(input);
+        self.frame.count_cycle();
+        self.frame.release(answer)
+    }
+}
+
+/// Writes a unit that came out behind the `given` ones before it, and says how many there are then.
+fn put(out: &mut [u64], given: usize, unit: Option<u64>) -> usize
+    requires { ⌜ given + one-if unit ≤ length (now out) ⌝ }
+    ensures after { λ _. ⌜ now (out .exit) ≡ written (now (out .entry)) given unit ⌝ }
+    ensures count { λ r. ⌜ r ≡ given + one-if unit ⌝ }
+{
+    match unit {
+        Some(x) => {
+            out[given] = x;
+            given + 1
+        }
+        None => given,
+    }
+}
