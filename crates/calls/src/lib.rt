@@ -6,9 +6,10 @@ ghost use Rattle.calls.specs.Theorem.{Theorem};
 /// The most units that one cartridge takes.
 pub const UNIT_LIMIT: usize = 1_048_576;
 
-/// The same, as proofs know it.
+/// The same, as proofs know it. It rests on the theorem, which says that no count passes it.
 pub fn limit() -> usize
-    ensures { λ r. ⌜ r ≡ unit-limit ⌝ }
+    ensures value { λ r. ⌜ r ≡ unit-limit ⌝ }
+    ensures theorem { λ _. ⌜ Theorem ⌝ }
 {
     UNIT_LIMIT
 }
