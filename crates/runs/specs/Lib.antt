@@ -3,3 +3,4 @@ pub mod Steps
 pub mod Views
 pub mod Standing
 pub mod Stands
+pub mod Handing
