@@ -2,4 +2,3 @@ pub mod Rings
 pub mod Steps
 pub mod Views
 pub mod Standing
-pub mod Stands

@@ -64,6 +64,10 @@ pub record Standing (mach : Machine) (m : Mode) (way : Way) (ivs us : List ℕ) 
   pub registered : Registered (row m .family) (shift (mach .forward) (mach .inverse) m way ivs us) (base + s) (v .register)
   pub clocked : v .cycles ≡ (past + t) % 2 ^ 64
 
+-- the same machine but for its row
+abbrev pub Same-engine : Machine → Machine → Type 0
+Same-engine mach mach′ = (mach′ .forward ≡ mach .forward) × (mach′ .inverse ≡ mach .inverse) × (mach′ .depth ≡ mach .depth)
+
 -- after one more cycle, in which r was handed out
 abbrev pub Outcome : Machine → Mode → Way → (ivs us : List ℕ) (base s h t past : ℕ) → View → Option ℕ → Type 0
 Outcome mach m way ivs us base s h t past v None = Standing mach m way ivs us base s h (t + 1) past v

@@ -1,9 +1,6 @@
 //! Runs: units go through an engine in a mode, one way.
-pub mod drains;
-pub mod feeds;
 pub mod heading;
 mod inner;
-pub mod tells;
 
 use super::frame::Frame;
 

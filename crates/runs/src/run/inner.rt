@@ -1,12 +1,11 @@
-//! One cycle of a run, and cycles one after the other.
+//! One cycle of a run.
 ghost use mathlib.Core.Path.{_≡_};
 ghost use Prim.Native.Nat.{_+_, _≤_};
 ghost use lib.ListN.{length};
 ghost use Rattle.calls.specs.Limits.{unit-limit};
 ghost use Rattle.runs.specs.Rings.{items, one-if};
 ghost use Rattle.runs.specs.Views.{view, Kept};
-ghost use Rattle.runs.specs.Standing.{Cycled};
-ghost use Rattle.runs.specs.Stands.{Same-engine, written};
+ghost use Rattle.runs.specs.Standing.{Same-engine, Cycled};
 use super::Run;
 use engines::engine::Engine;
 
@@ -23,20 +22,5 @@ impl<E: Engine, W> Run<E, W> {
         let answer = self.engine.clock(input);
         self.frame.count_cycle();
         self.frame.release(answer)
-    }
-}
-
-/// Writes a unit that came out behind the `given` ones before it, and says how many there are then.
-fn put(out: &mut [u64], given: usize, unit: Option<u64>) -> usize
-    requires { ⌜ given + one-if unit ≤ length (now out) ⌝ }
-    ensures after { λ _. ⌜ now (out .exit) ≡ written (now (out .entry)) given unit ⌝ }
-    ensures count { λ r. ⌜ r ≡ given + one-if unit ⌝ }
-{
-    match unit {
-        Some(x) => {
-            out[given] = x;
-            given + 1
-        }
-        None => given,
     }
 }
