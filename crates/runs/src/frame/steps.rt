@@ -5,7 +5,7 @@ ghost use lib.ListN.{length};
 ghost use Rattle.std.specs.declared.option.Option.the-variants.{Some};
 ghost use Rattle.calls.specs.Limits.{unit-limit};
 ghost use Rattle.runs.specs.Rings.{items, one-if};
-ghost use Rattle.runs.specs.Steps.{input-by, mask-by, direction-by, register-by, fed-back-by, counted};
+ghost use Rattle.runs.specs.Steps.{input-by, mask-by, direction-by, register-by, fed-back-by, link-of, shift-of, counted};
 ghost use Rattle.runs.specs.Views.{view, Kept, Admitted, Released};
 use super::Frame;
 use cipher::Block;
@@ -67,6 +67,28 @@ fn fed_back(family: Family, block: Block, unit: u64) -> u64
 }
 
 impl Frame {
+    /// What the chain has for the next unit.
+    fn link(&self) -> u64
+        ensures { λ r. ⌜ r ≡ link-of (now (self .entry) .mode) (now (self .entry) .way) (view (now (self .entry))) ⌝ }
+    {
+        let place = match self.mode.distance(self.way) {
+            Some(_) => self.pending.len(),
+            None => 0,
+        };
+        self.chain.at(place)
+    }
+
+    /// The register for the next unit, where the chain has `link` for it.
+    fn shifted(&self, link: u64) -> Block
+        ensures { λ r. ⌜ (link ≡ link-of (now (self .entry) .mode) (now (self .entry) .way) (view (now (self .entry))) → r ≡ shift-of (now (self .entry) .mode) (now (self .entry) .way) (view (now (self .entry)))) ⌝ }
+    {
+        if self.taken < self.mode.initial_values() {
+            link
+        } else {
+            self.mode.shifted(self.register, link)
+        }
+    }
+
     /// Takes a unit in, and says what goes into the engine for it.
     fn enter(&mut self, unit: u64) -> Work
         requires { ⌜ now self .before + now self .taken < unit-limit ⌝ }
@@ -75,26 +97,19 @@ impl Frame {
         ensures most { λ _. ⌜ length (items (now (self .exit) .pending)) ≤ length (items (now (self .entry) .pending)) + 1 ⌝ }
         ensures count { λ _. ⌜ now (self .exit) .taken ≡ now (self .entry) .taken + 1 ⌝ }
     {
-        let mode = self.mode;
+        let family = self.mode.family();
         let way = self.way;
-        let distance = mode.distance(way);
-        let place = if distance.is_some() { self.pending.len() } else { 0 };
-        let link = self.chain.at(place);
-        let register = if self.taken < mode.initial_values() {
-            link
-        } else {
-            mode.shifted(self.register, link)
-        };
-        self.pending.push(mask_for(mode.family(), way, unit, link));
-        if distance.is_none() {
-            self.chain.push(unit);
-            let _ = self.chain.pop();
+        let link = self.link();
+        let register = self.shifted(link);
+        self.pending.push(mask_for(family, way, unit, link));
+        if self.mode.distance(way).is_none() {
+            self.chain.pass(unit);
         }
-        self.register = register_after(mode.family(), self.register, register);
+        self.register = register_after(family, self.register, register);
         self.taken += 1;
         Work {
-            block: input_for(mode.family(), way, unit, link, register),
-            direction: direction_for(mode.family(), way),
+            block: input_for(family, way, unit, link, register),
+            direction: direction_for(family, way),
         }
     }
 
@@ -112,8 +127,7 @@ impl Frame {
             Some(mask) => {
                 let unit = mode.leftmost(block) ^ mask;
                 if mode.distance(way).is_some() {
-                    self.chain.push(fed_back(mode.family(), block, unit));
-                    let _ = self.chain.pop();
+                    self.chain.pass(fed_back(mode.family(), block, unit));
                 }
                 Some(unit)
             }

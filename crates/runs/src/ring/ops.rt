@@ -1,12 +1,11 @@
 //! Putting in at the end and taking out at the front.
 ghost use mathlib.Core.Path.{_≡_};
-ghost use mathlib.Core.Bool.{cond};
 ghost use mathlib.Core.List.{[], _∷_, _++_};
-ghost use Prim.Native.Nat.{_≤_};
-ghost use lib.Dec.{ltb};
+ghost use Prim.Native.Nat.{_+_, _<_, _≤_};
 ghost use lib.ListN.{length, getD, drop};
 ghost use Rattle.engines.specs.Depths.{greatest-depth};
 ghost use Rattle.runs.specs.Rings.{items, first-of};
+ghost use Rattle.runs.specs.Steps.{pushed};
 use super::Ring;
 use engines::engine::GREATEST_DEPTH;
 
@@ -41,7 +40,9 @@ impl Ring {
 
     /// Puts a number in at the end; a full ring stays as it is.
     pub(crate) fn push(&mut self, number: u64)
-        ensures { λ _. ⌜ items (now (self .exit)) ≡ cond (ltb (length (items (now (self .entry)))) greatest-depth) (items (now (self .entry)) ++ number ∷ []) (items (now (self .entry))) ⌝ }
+        ensures room { λ _. ⌜ (length (items (now (self .entry))) < greatest-depth → items (now (self .exit)) ≡ items (now (self .entry)) ++ number ∷ []) ⌝ }
+        ensures full { λ _. ⌜ (greatest-depth ≤ length (items (now (self .entry))) → items (now (self .exit)) ≡ items (now (self .entry))) ⌝ }
+        ensures most { λ _. ⌜ length (items (now (self .exit))) ≤ length (items (now (self .entry))) + 1 ⌝ }
     {
         if self.count < GREATEST_DEPTH {
             self.places[(self.oldest + self.count) % GREATEST_DEPTH] = number;
@@ -61,5 +62,13 @@ impl Ring {
         self.oldest = (self.oldest + 1) % GREATEST_DEPTH;
         self.count -= 1;
         Some(number)
+    }
+
+    /// Puts a number in at the end and takes the oldest out.
+    pub(crate) fn pass(&mut self, number: u64)
+        ensures { λ _. ⌜ (length (items (now (self .entry))) < greatest-depth → items (now (self .exit)) ≡ pushed (items (now (self .entry))) number) ⌝ }
+    {
+        self.push(number);
+        let _ = self.pop();
     }
 }
