@@ -16,6 +16,12 @@ pub enum Refusal {
     UnknownCode(u8),
     /// Initial values of another length than the mode's. Holds the length.
     InitialValueLength(usize),
+    /// An output list shorter than what may have to be written. Holds the length wanted.
+    OutputLength(usize),
+    /// A unit that is too wide for the mode. Holds the index of the first, from 0.
+    UnitWidth(usize),
+    /// More units than the cartridge still takes. Holds how many it takes.
+    UnitLimit(usize),
 }
 
 impl Refusal {
@@ -29,6 +35,9 @@ impl Refusal {
             Refusal::SameKeys => 3,
             Refusal::UnknownCode(_) => 4,
             Refusal::InitialValueLength(_) => 5,
+            Refusal::OutputLength(_) => 6,
+            Refusal::UnitWidth(_) => 7,
+            Refusal::UnitLimit(_) => 8,
         }
     }
 
@@ -42,6 +51,9 @@ impl Refusal {
             Refusal::SameKeys => 0,
             Refusal::UnknownCode(code) => u64::from(code),
             Refusal::InitialValueLength(length) => length as u64,
+            Refusal::OutputLength(length) => length as u64,
+            Refusal::UnitWidth(index) => index as u64,
+            Refusal::UnitLimit(left) => left as u64,
         }
     }
 }
@@ -56,6 +68,12 @@ pub impl fmt::Display for Refusal as RefusalDisplay {
             Refusal::InitialValueLength(length) => {
                 write!(f, "the mode's initial values cannot have {length} bytes")
             }
+            Refusal::OutputLength(length) => write!(f, "the output list needs {length} places"),
+            Refusal::UnitWidth(index) => write!(
+                f,
+                "the unit at index {index} is too wide for the mode"
+            ),
+            Refusal::UnitLimit(left) => write!(f, "the cartridge takes only {left} units more"),
         }
     }
 }
