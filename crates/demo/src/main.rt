@@ -1,10 +1,13 @@
-//! One task at the bench, from beginning to end: a settlement record goes out under triple DEA and comes back.
+//! What the core does, for a person at the bench, up to a settlement file that travels over a bad line.
 mod ciphering;
 mod line;
 mod loading;
 mod mode_table;
 mod record;
+mod records;
+mod settlement;
 mod shown;
+mod transmission;
 
 use std::error::AnyError;
 
@@ -21,5 +24,7 @@ fn run(rt: &LibcRuntime) -> Result<(), AnyError> {
     println!(rt, "")?;
     line::show(rt)?;
     println!(rt, "")?;
-    ciphering::show(rt)
+    ciphering::show(rt)?;
+    println!(rt, "")?;
+    settlement::show(rt)
 }
