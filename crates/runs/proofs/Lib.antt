@@ -1,3 +1,4 @@
 pub mod RingPlaces
 pub mod Chains
 pub mod UnitsOut
+pub mod Between

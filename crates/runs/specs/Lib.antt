@@ -4,3 +4,4 @@ pub mod Views
 pub mod Standing
 pub mod Stands
 pub mod Handing
+pub mod Ends

@@ -1,5 +1,6 @@
 //! Cartridges and the runs on them, over any engine.
 pub mod cartridge;
+pub mod ends;
 mod frame;
 mod ring;
 pub mod run;
