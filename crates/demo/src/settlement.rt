@@ -80,10 +80,18 @@ fn formula(units: usize, distance: Option<usize>, depth: usize) -> usize {
         _ => 0,
     };
     let each = depth.saturating_sub(distance.unwrap_or(depth));
-    units.saturating_add(waits.saturating_mul(each)).saturating_add(depth.saturating_sub(1))
+    units
+        .saturating_add(waits.saturating_mul(each))
+        .saturating_add(depth.saturating_sub(1))
 }
 
-fn print_accounts(rt: &LibcRuntime, who: &str, accounts: Accounts, distance: Option<usize>, depth: usize) -> Result<(), AnyError> {
+fn print_accounts(
+    rt: &LibcRuntime,
+    who: &str,
+    accounts: Accounts,
+    distance: Option<usize>,
+    depth: usize,
+) -> Result<(), AnyError> {
     let taken = accounts.taken;
     let handed_out = accounts.handed_out;
     let inside = accounts.inside;
@@ -126,11 +134,29 @@ pub fn show(rt: &LibcRuntime) -> Result<(), AnyError> {
     let flipped = FLIPPED + 1;
     let lost = LOST + 1;
     println!(rt, "{RECORDS} records sent in {name}: {sent} units")?;
-    println!(rt, "the line flipped a bit of unit {flipped} and lost unit {lost}: {received} received, {on_the_way} not")?;
+    println!(
+        rt,
+        "the line flipped a bit of unit {flipped} and lost unit {lost}: {received} received, {on_the_way} not"
+    )?;
     println!(rt, "sent                       received")?;
     print_records(rt, &transmission)?;
     let from = reads_right_from(&transmission, &file) + 1;
-    println!(rt, "the receiver reads right again from sent unit {from} on")?;
-    print_accounts(rt, "sender", transmission.sender, mode.distance(Way::Enciphering), 3)?;
-    print_accounts(rt, "receiver", transmission.receiver, mode.distance(Way::Deciphering), 1)
+    println!(
+        rt,
+        "the receiver reads right again from sent unit {from} on"
+    )?;
+    print_accounts(
+        rt,
+        "sender",
+        transmission.sender,
+        mode.distance(Way::Enciphering),
+        3,
+    )?;
+    print_accounts(
+        rt,
+        "receiver",
+        transmission.receiver,
+        mode.distance(Way::Deciphering),
+        1,
+    )
 }

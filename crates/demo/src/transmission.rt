@@ -74,7 +74,11 @@ pub struct Transmission {
 }
 
 /// Feeds some units, and puts what is handed out behind the units that are there.
-fn feed<E: Engine, W>(run: &mut Run<E, W>, units: &[u64], handed_out: &mut Units) -> Option<Refusal> {
+fn feed<E: Engine, W>(
+    run: &mut Run<E, W>,
+    units: &[u64],
+    handed_out: &mut Units,
+) -> Option<Refusal> {
     let mut out = [0; UNITS];
     match run.feed(units, &mut out) {
         Ok(count) => {
@@ -105,7 +109,11 @@ fn push_all(units: &mut Units, more: &[u64; UNITS], count: usize) {
 }
 
 /// The file goes in by four feeds, and a drain.
-fn send<E: Engine>(run: &mut EncipheringRun<E>, file: &[u64; UNITS], sent: &mut Units) -> Option<Refusal> {
+fn send<E: Engine>(
+    run: &mut EncipheringRun<E>,
+    file: &[u64; UNITS],
+    sent: &mut Units,
+) -> Option<Refusal> {
     let a = feed(run, &file[0..5], sent);
     let b = feed(run, &file[5..12], sent);
     let c = feed(run, &file[12..24], sent);
@@ -114,7 +122,11 @@ fn send<E: Engine>(run: &mut EncipheringRun<E>, file: &[u64; UNITS], sent: &mut 
 }
 
 /// What arrives is fed as it comes, and drained.
-fn receive<E: Engine>(run: &mut DecipheringRun<E>, arriving: &Units, received: &mut Units) -> Option<Refusal> {
+fn receive<E: Engine>(
+    run: &mut DecipheringRun<E>,
+    arriving: &Units,
+    received: &mut Units,
+) -> Option<Refusal> {
     let mut refused = None;
     for (i, unit) in arriving.all.iter().enumerate() {
         if i < arriving.count {
@@ -136,7 +148,14 @@ fn travel(sent: &Units, flipped: usize, lost: usize) -> Units {
 }
 
 /// Both ends, with their runs open at once.
-fn transmit<S: Engine + Drop, R: Engine + Drop>(sender: S, receiver: R, order: Order, file: &[u64; UNITS], flipped: usize, lost: usize) -> Transmission {
+fn transmit<S: Engine + Drop, R: Engine + Drop>(
+    sender: S,
+    receiver: R,
+    order: Order,
+    file: &[u64; UNITS],
+    flipped: usize,
+    lost: usize,
+) -> Transmission {
     let mut sending = Cartridge::new(sender).start_enciphering(order);
     let mut receiving = Cartridge::new(receiver).start_deciphering(order);
     let mut sent = Units::none();
@@ -158,7 +177,13 @@ fn transmit<S: Engine + Drop, R: Engine + Drop>(sender: S, receiver: R, order: O
 }
 
 /// The file under the example's keys: sent on the line, received on a plain engine over the triple.
-pub fn run(rt: &LibcRuntime, order: Order, file: &[u64; UNITS], flipped: usize, lost: usize) -> Result<Transmission, AnyError> {
+pub fn run(
+    rt: &LibcRuntime,
+    order: Order,
+    file: &[u64; UNITS],
+    flipped: usize,
+    lost: usize,
+) -> Result<Transmission, AnyError> {
     let (first, second, third) = load_bundle(rt)?.into_ciphers();
     let line: Line<Dea, Dea, Dea> = Line::new(first, second, third);
     let (first, second, third) = load_bundle(rt)?.into_ciphers();

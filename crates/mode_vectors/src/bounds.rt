@@ -11,7 +11,11 @@ use std::error::AnyError;
 /// How many units are fed at once.
 const CHUNK: usize = 4096;
 
-fn print_answer(rt: &LibcRuntime, what: &str, answer: Result<usize, Refusal>) -> Result<(), AnyError> {
+fn print_answer(
+    rt: &LibcRuntime,
+    what: &str,
+    answer: Result<usize, Refusal>,
+) -> Result<(), AnyError> {
     match answer {
         Ok(count) => println!(rt, "{what}: {count} handed out")?,
         Err(refusal) => {
@@ -84,5 +88,9 @@ pub fn show(rt: &LibcRuntime) -> Result<(), AnyError> {
     print_answer(rt, "one unit more", near.one_more)?;
     print_answer(rt, "another", near.another)?;
     println!(rt, "count: {count}")?;
-    print_answer(rt, "no units, two inside, no place for output", no_place(order))
+    print_answer(
+        rt,
+        "no units, two inside, no place for output",
+        no_place(order),
+    )
 }

@@ -17,7 +17,11 @@ use runs::cartridge::Cartridge;
 use std::error::AnyError;
 
 /// The three keys.
-const KEYS: [u64; 3] = [0x0123_4567_89AB_CDEF, 0x2345_6789_ABCD_EF01, 0x4567_89AB_CDEF_0123];
+const KEYS: [u64; 3] = [
+    0x0123_4567_89AB_CDEF,
+    0x2345_6789_ABCD_EF01,
+    0x4567_89AB_CDEF_0123,
+];
 
 /// The initial values, eight bytes each.
 #[rattlefmt::skip]
@@ -66,7 +70,12 @@ fn failed(rt: &LibcRuntime, refusal: Refusal) -> AnyError {
 }
 
 /// Units sent on a new line: fed one by one, and drained.
-fn send(rt: &LibcRuntime, keys: [u64; 3], order: Order, units: &[u64]) -> Result<[u64; UNITS], AnyError> {
+fn send(
+    rt: &LibcRuntime,
+    keys: [u64; 3],
+    order: Order,
+    units: &[u64],
+) -> Result<[u64; UNITS], AnyError> {
     let (first, second, third) = ciphers(keys);
     let mut run = Cartridge::new(Line::new(first, second, third)).start_enciphering(order);
     let mut sent = [0; UNITS];
@@ -106,9 +115,16 @@ fn append(all: &mut [u64; UNITS], given: usize, more: &[u64; UNITS], count: usiz
 }
 
 /// Units received on a new plain engine over the triple, in one feed.
-fn receive(rt: &LibcRuntime, keys: [u64; 3], order: Order, units: &[u64]) -> Result<[u64; UNITS], AnyError> {
+fn receive(
+    rt: &LibcRuntime,
+    keys: [u64; 3],
+    order: Order,
+    units: &[u64],
+) -> Result<[u64; UNITS], AnyError> {
     let (first, second, third) = ciphers(keys);
-    let mut run = Cartridge::new(Plain::new(Triple::new(first, second, third))).start_deciphering(order);
+    let mut run = Cartridge::new(Plain::new(Triple::new(first, second, third))).start_deciphering(
+        order,
+    );
     let mut received = [0; UNITS];
     let answer = run.feed(units, &mut received);
     drop(run.close());
@@ -129,7 +145,13 @@ fn print_units(rt: &LibcRuntime, width: usize, units: &[u64]) -> Result<(), AnyE
     Ok(())
 }
 
-fn show(rt: &LibcRuntime, keys: [u64; 3], order: Order, units: [u64; UNITS], count: usize) -> Result<(), AnyError>
+fn show(
+    rt: &LibcRuntime,
+    keys: [u64; 3],
+    order: Order,
+    units: [u64; UNITS],
+    count: usize,
+) -> Result<(), AnyError>
     requires { ⌜ count ≤ 16 ⌝ }
 {
     let mode = order.mode();
@@ -163,7 +185,17 @@ pub fn show_codebook_example(rt: &LibcRuntime) -> Result<(), AnyError> {
     match Order::check(1, &[]) {
         Ok(order) => {
             let (units, _) = units_of(64);
-            show(rt, [0x0123_4567_89AB_CDEF, 0xFEDC_BA98_7654_3210, 0x0123_4567_89AB_CDEF], order, units, 4)
+            show(
+                rt,
+                [
+                    0x0123_4567_89AB_CDEF,
+                    0xFEDC_BA98_7654_3210,
+                    0x0123_4567_89AB_CDEF,
+                ],
+                order,
+                units,
+                4,
+            )
         }
         Err(refusal) => Err(failed(rt, refusal)),
     }

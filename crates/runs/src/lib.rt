@@ -4,3 +4,5 @@ pub mod ends;
 mod frame;
 mod ring;
 pub mod run;
+#[cfg(test)]
+mod tests;

@@ -64,7 +64,12 @@ fn call<E: Engine, W>(run: &mut Run<E, W>, mode: Mode, numbers: &mut Numbers, ta
 }
 
 /// A run of so many calls, and its closing.
-fn run_through<E: Engine, W: Drop>(run: Run<E, W>, mode: Mode, numbers: &mut Numbers, tally: &mut Tally) -> Cartridge<E> {
+fn run_through<E: Engine, W: Drop>(
+    run: Run<E, W>,
+    mode: Mode,
+    numbers: &mut Numbers,
+    tally: &mut Tally,
+) -> Cartridge<E> {
     let mut run = run;
     let calls = 1 + pick(numbers, 8);
     for _ in 0..calls {
@@ -74,7 +79,13 @@ fn run_through<E: Engine, W: Drop>(run: Run<E, W>, mode: Mode, numbers: &mut Num
     run.close()
 }
 
-fn open_and_run<E: Engine>(cartridge: Cartridge<E>, order: Order, way: Way, numbers: &mut Numbers, tally: &mut Tally) -> Cartridge<E> {
+fn open_and_run<E: Engine>(
+    cartridge: Cartridge<E>,
+    order: Order,
+    way: Way,
+    numbers: &mut Numbers,
+    tally: &mut Tally,
+) -> Cartridge<E> {
     let mode = order.mode();
     match way {
         Way::Enciphering => run_through(cartridge.start_enciphering(order), mode, numbers, tally),
