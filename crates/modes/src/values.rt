@@ -33,11 +33,12 @@ impl InitialValues {
         match bytes.len() {
             0 => Some(Self::Empty),
             8 => Some(Self::One(block_at(bytes, 0)?)),
-            24 => Some(Self::Three(
-                block_at(bytes, 0)?,
-                block_at(bytes, 8)?,
-                block_at(bytes, 16)?,
-            )),
+            24 => {
+                let first = block_at(bytes, 0)?;
+                let second = block_at(bytes, 8)?;
+                let third = block_at(bytes, 16)?;
+                Some(Self::Three(first, second, third))
+            }
             _ => None,
         }
     }
