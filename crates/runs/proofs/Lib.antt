@@ -2,6 +2,8 @@ pub mod RingPlaces
 pub mod Chains
 pub mod UnitsOut
 pub mod Slots
+pub mod Turns
+pub mod Cycles
 pub mod Onwards
 pub mod Outputs
 pub mod Inside
