@@ -8,3 +8,5 @@ pub mod Onwards
 pub mod Outputs
 pub mod Inside
 pub mod Passes
+pub mod Wides
+pub mod Waits
