@@ -10,3 +10,5 @@ pub mod Inside
 pub mod Passes
 pub mod Wides
 pub mod Waits
+pub mod MoreUnits
+pub mod Pumps
