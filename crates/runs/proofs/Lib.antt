@@ -12,3 +12,6 @@ pub mod Wides
 pub mod Waits
 pub mod MoreUnits
 pub mod Pumps
+pub mod Numbers
+pub mod FeedReplies
+pub mod DrainReplies
