@@ -39,8 +39,8 @@ use Rattle.runs.proofs.Numbers.{inside-told, stretch-passed}
 
 -- which refusal, or none, where n units are inside
 
-pub drain-refuses : (n room : ℕ) → room < n → (otherwise : Answer) → refusal-to-drain n room otherwise ≡ refused (OutputLength n)
-drain-refuses n room l otherwise = cond-true _ _ _ (lt-ltb room n l)
+pub drain-refuses : (n room k : ℕ) → k ≡ n → room < k → (otherwise : Answer) → refusal-to-drain n room otherwise ≡ refused (OutputLength k)
+drain-refuses n room k e l otherwise = cond-true _ _ _ (lt-ltb room n (omega arith)) ∙ ap (λ j. refused (OutputLength j)) (sym e)
 
 pub drain-accepts : (n room : ℕ) → n ≤ room → (otherwise : Answer) → refusal-to-drain n room otherwise ≡ otherwise
 drain-accepts n room l otherwise = cond-false _ _ _ (le-ltb room n l)
@@ -50,21 +50,20 @@ refusal-told : (mach : Machine) (f : Frame) (calls : Calls true) → Stands mach
 refusal-told mach f calls stands room otherwise = ap (λ n. refusal-to-drain n room otherwise) (sym (inside-told mach f calls stands))
 
 -- a refusal alters nothing
-pub drain-refused : (mach : Machine) (f : Frame) (xs : List ℕ) → length xs < length (items (f .pending))
-    → Drained mach mach f f xs xs (Err (OutputLength (length (items (f .pending)))))
-drain-refused mach f xs small = λ calls stands.
+pub drain-refused : (mach : Machine) (f : Frame) (xs : List ℕ) (k : ℕ) → k ≡ length (items (f .pending)) → length xs < k
+    → Drained mach mach f f xs xs (Err (OutputLength k))
+drain-refused mach f xs k is small = λ calls stands.
     let w = stands .at-work in
     let room = length xs in
-    let e = OutputLength (length (items (f .pending))) in
+    let e = OutputLength k in
     let due : due-drain (mach .forward) (mach .inverse) (mach .depth) calls room ≡ refused e =
-        refusal-told mach f calls stands room _ ∙ drain-refuses (length (items (f .pending))) room small _ in
-    (
+    refusal-told mach f calls stands room _ ∙ drain-refuses (length (items (f .pending))) room k is small _ in (
       subst (Answered xs xs (Err e)) (sym due) (refl, refl),
       subst (λ a. Stands mach f (drained room a calls)) (sym due)
-      (record {
-        follows = (sym due, stands .follows);
-        at-work = record { sound = w .sound; mode = w .mode; way = w .way; before = w .before; standing = w .standing };
-      }),
+          (record {
+            follows = (sym due, stands .follows);
+            at-work = record { sound = w .sound; mode = w .mode; way = w .way; before = w .before; standing = w .standing };
+          }),
     )
 
 -- the units due
@@ -84,17 +83,16 @@ drain-none mach f xs nothing = λ calls stands.
     let room = length xs in
     let inside = inside-told mach f calls stands in
     let none : results-due mach calls ≡ [] =
-        nil-from-length (results-due mach calls)
-        (length-drop (length (taken calls) - inside-in (mach .depth) calls) _
-        ∙ omega (arith, length-results (mach .forward) (mach .inverse) (order-of calls .mode) (way-of calls) (listed (order-of calls .values)) (taken calls) (length (taken calls)))) in
-    let due : due-drain (mach .forward) (mach .inverse) (mach .depth) calls room ≡ gave [] = due-results mach f calls stands room (omega arith) ∙ ap gave none in
-    (
+    nil-from-length (results-due mach calls)
+    (length-drop (length (taken calls) - inside-in (mach .depth) calls) _
+    ∙ omega (arith, length-results (mach .forward) (mach .inverse) (order-of calls .mode) (way-of calls) (listed (order-of calls .values)) (taken calls) (length (taken calls)))) in
+    let due : due-drain (mach .forward) (mach .inverse) (mach .depth) calls room ≡ gave [] = due-results mach f calls stands room (omega arith) ∙ ap gave none in (
       subst (Answered xs xs (Ok 0)) (sym due) (refl, refl),
       subst (λ a. Stands mach f (drained room a calls)) (sym due)
-      (record {
-        follows = (sym due, stands .follows);
-        at-work = record { sound = w .sound; mode = w .mode; way = w .way; before = w .before; standing = w .standing };
-      }),
+          (record {
+            follows = (sym due, stands .follows);
+            at-work = record { sound = w .sound; mode = w .mode; way = w .way; before = w .before; standing = w .standing };
+          }),
     )
 
 -- once all are out, a new stretch begins
@@ -134,7 +132,7 @@ begins-again mach m way ivs us base s t past v st =
 -- all that was inside is out
 module _ (mach : Machine) (places : List (Option ℕ)) (f f′ : Frame) (calls : Calls true) (stands : Stands mach f calls) (xs ys : List ℕ) (n : ℕ)
     (hands : Handing (holding mach places) f′ calls (taken calls) (stretch calls) n
-      (passed (mach .depth) (distance-in calls) (stretch calls) + (mach .depth - 1)) xs ys) where
+    (passed (mach .depth) (distance-in calls) (stretch calls) + (mach .depth - 1)) xs ys) where
   abbrev D : ℕ
   D = mach .depth
 
@@ -175,7 +173,7 @@ module _ (mach : Machine) (places : List (Option ℕ)) (f f′ : Frame) (calls :
       let eu : units-earlier calls + s ≡ length (taken calls) - 0 = omega arith in
       let ec : cycles-earlier D calls + (t + (D - 1)) ≡ cycles-passed D calls + (D - 1) - 0 = omega (arith, stretch-passed D calls) in
       let st = subst (λ k. Standing (holding mach places) m (way-of calls) ivs (taken calls) (units-earlier calls) s k (t + (D - 1)) (cycles-earlier D calls) (view f′))
-          everything (w .standing) in
+      everything (w .standing) in
       record {
         follows = follows;
         at-work = record {
@@ -200,17 +198,16 @@ drain-some mach mach′ f f′ xs ys n same some large idles = λ calls stands.
     let is = wrote-due mach places f f′ calls stands xs ys n hands in
     let due = due-results mach f calls stands room large in
     let found : 0 < length hs =
-        omega (
-          arith,
-          ap length is,
-          length-wrote mach places f f′ calls stands xs ys n hands,
-          everything mach places f f′ calls stands xs ys n hands,
-          inside-told mach f calls stands,
-          inside-most (mach .depth) (distance-in calls) (stretch calls),
-        ) in
-    (
+    omega (
+      arith,
+      ap length is,
+      length-wrote mach places f f′ calls stands xs ys n hands,
+      everything mach places f f′ calls stands xs ys n hands,
+      inside-told mach f calls stands,
+      inside-most (mach .depth) (distance-in calls) (stretch calls),
+    ) in (
       subst (Answered xs ys (Ok n)) (ap gave is ∙ sym due) (answered-wrote mach places f f′ calls stands xs ys n hands),
       subst (λ a. Stands mach′ f′ (drained room a calls)) (sym due)
-      (subst (λ m. Stands m f′ (drained room (gave hs) calls)) (sym (same-holding mach mach′ same))
-      (stands-drained mach places f f′ calls stands xs ys n hands room hs found (sym due, stands .follows))),
+          (subst (λ m. Stands m f′ (drained room (gave hs) calls)) (sym (same-holding mach mach′ same))
+          (stands-drained mach places f f′ calls stands xs ys n hands room hs found (sym due, stands .follows))),
     )

@@ -46,8 +46,8 @@ module _ (n w c : ℕ) (us : List ℕ) (room : ℕ) where
   abbrev beyond-room : Option ℕ → Answer → Answer
   beyond-room wide otherwise = elim wide [ Some i ↦ refused (UnitWidth i) | None ↦ cond (ltb unit-limit (c + length us)) (refused (UnitLimit (unit-limit - c))) otherwise ]
 
-  pub refuses-room : room < n + length us → Refuses (OutputLength (n + length us))
-  refuses-room l otherwise = cond-true _ _ _ (lt-ltb room (n + length us) l)
+  pub refuses-room : (k : ℕ) → k ≡ n + length us → room < k → Refuses (OutputLength k)
+  refuses-room k e l otherwise = cond-true _ _ _ (lt-ltb room (n + length us) (omega arith)) ∙ ap (λ j. refused (OutputLength j)) (sym e)
 
   has-room : n + length us ≤ room → (otherwise : Answer) → refusal-to-feed n w c us room otherwise ≡ beyond-room (first-wide w 0 us) otherwise
   has-room l otherwise = cond-false _ _ _ (le-ltb room (n + length us) l)
@@ -66,7 +66,7 @@ module _ (n w c : ℕ) (us : List ℕ) (room : ℕ) where
 -- the numbers that a run tells are those of its calls
 refusal-told : (mach : Machine) (f : Frame) (calls : Calls true) → Stands mach f calls → (us : List ℕ) (room : ℕ) (otherwise : Answer)
     → refusal-to-feed (inside-in (mach .depth) calls) (width-in calls) (count-in calls) us room otherwise
-      ≡ refusal-to-feed (length (items (f .pending))) (row (f .mode) .width) (f .before + f .taken) us room otherwise
+    ≡ refusal-to-feed (length (items (f .pending))) (row (f .mode) .width) (f .before + f .taken) us room otherwise
 refusal-told mach f calls stands us room otherwise =
     sym
     (ap (λ n. refusal-to-feed n (row (f .mode) .width) (f .before + f .taken) us room otherwise) (inside-told mach f calls stands)
@@ -80,20 +80,19 @@ feed-refused mach f us xs e refuses = λ calls stands.
     let w = stands .at-work in
     let room = length xs in
     let due : due-feed (mach .forward) (mach .inverse) (mach .depth) calls us room ≡ refused e =
-        refusal-told mach f calls stands us room _ ∙ refuses _ in
-    (
+    refusal-told mach f calls stands us room _ ∙ refuses _ in (
       subst (Answered xs xs (Err e)) (sym due) (refl, refl),
       subst (λ a. Stands mach f (fed us room a calls)) (sym due)
-      (record {
-        follows = (sym due, stands .follows);
-        at-work = record { sound = w .sound; mode = w .mode; way = w .way; before = w .before; standing = w .standing };
-      }),
+          (record {
+            follows = (sym due, stands .follows);
+            at-work = record { sound = w .sound; mode = w .mode; way = w .way; before = w .before; standing = w .standing };
+          }),
     )
 
 -- the units were taken
 module _ (mach : Machine) (places : List (Option ℕ)) (f f′ : Frame) (calls : Calls true) (stands : Stands mach f calls) (us xs ys : List ℕ) (n : ℕ)
     (hands : Handing (holding mach places) f′ calls (taken calls ++ us) (stretch calls + length us) n
-      (passed (mach .depth) (distance-in calls) (stretch calls + length us)) xs ys) where
+    (passed (mach .depth) (distance-in calls) (stretch calls + length us)) xs ys) where
   abbrev D : ℕ
   D = mach .depth
 
@@ -144,7 +143,7 @@ module _ (mach : Machine) (places : List (Option ℕ)) (f f′ : Frame) (calls :
       let eu : units-earlier calls ≡ length (taken calls ++ us) - s = omega arith in
       let eh : out-in D calls + n ≡ s - inside D δ s = omega arith in
       let ec : cycles-earlier D calls ≡ cycles-passed D calls + (t - passed D δ (stretch calls)) - t =
-          omega (arith, passed-more D δ (stretch calls) (length us)) in
+      omega (arith, passed-more D δ (stretch calls) (length us)) in
       record {
         follows = follows;
         at-work = record {
@@ -167,11 +166,10 @@ feed-taken mach mach′ f f′ us xs ys n same accepts pumps = λ calls stands.
     let room = length xs in
     let hands = pumps calls stands in
     let hs = results-due mach places f f′ calls stands us xs ys n hands in
-    let due : due-feed (mach .forward) (mach .inverse) (mach .depth) calls us room ≡ gave hs = refusal-told mach f calls stands us room _ ∙ accepts _ in
-    (
+    let due : due-feed (mach .forward) (mach .inverse) (mach .depth) calls us room ≡ gave hs = refusal-told mach f calls stands us room _ ∙ accepts _ in (
       subst (Answered xs ys (Ok n)) (ap gave (wrote-due mach places f f′ calls stands us xs ys n hands) ∙ sym due)
-      (answered-wrote mach places f f′ calls stands us xs ys n hands),
+          (answered-wrote mach places f f′ calls stands us xs ys n hands),
       subst (λ a. Stands mach′ f′ (fed us room a calls)) (sym due)
-      (subst (λ m. Stands m f′ (fed us room (gave hs) calls)) (sym (same-holding mach mach′ same))
-      (stands-fed mach places f f′ calls stands us xs ys n hands room hs (sym due, stands .follows))),
+          (subst (λ m. Stands m f′ (fed us room (gave hs) calls)) (sym (same-holding mach mach′ same))
+          (stands-fed mach places f f′ calls stands us xs ys n hands room hs (sym due, stands .follows))),
     )

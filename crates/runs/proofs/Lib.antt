@@ -15,3 +15,4 @@ pub mod Pumps
 pub mod Numbers
 pub mod FeedReplies
 pub mod DrainReplies
+pub mod Starts

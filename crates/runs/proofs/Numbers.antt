@@ -105,7 +105,7 @@ module _ (mach : Machine) (f : Frame) (calls : Calls true) (stands : Stands mach
       let most = cycles-most (mach .forward) (mach .inverse) (mach .depth) (stands .at-work .sound .shallow) calls (stands .follows) in
       let small : cycles-passed (mach .depth) calls < 2 ^ 64 = omega (arith, taken-told, f .within) in
       let e : cycles-passed (mach .depth) calls - passed (mach .depth) (distance-in calls) (stretch calls) + passed (mach .depth) (distance-in calls) (stretch calls)
-          ≡ cycles-passed (mach .depth) calls = omega (arith, stretch-passed (mach .depth) calls) in
+      ≡ cycles-passed (mach .depth) calls = omega (arith, stretch-passed (mach .depth) calls) in
       stands .at-work .standing .clocked ∙ ap (λ k. k % 2 ^ 64) e ∙ mod-eq-of-lt small
 
   pub in-row-told : blocks (mach .row) ≡ inside-in (mach .depth) calls

@@ -67,12 +67,12 @@ pumps-more mach mach1 mach2 mach3 f f1 f2 f3 us k u a b c xs ys zs ws s1 s2 s3 l
     let place : units-earlier calls + s ≡ length (taken calls) + k = omega arith in
     let w = subst (λ m. Waits m mach2 f1 f2 a b ys zs) (same-holding mach mach1 s1) waits calls (taken calls ++ us) xs s (pumps calls stands) in
     let enters : Enters (holding mach (mach2 .row)) (order-of calls .mode) (way-of calls) (taken calls ++ us) (units-earlier calls) s (out-in D calls + b) (entry D δ s) u =
-        record {
-          next = omega arith;
-          unit = eu ∙ sym (getD-append-add (taken calls) us k 0) ∙ ap (λ i. getD (taken calls ++ us) i 0) (sym place);
-          cycle = refl;
-          partner = w .1;
-        } in
+    record {
+      next = omega arith;
+      unit = eu ∙ sym (getD-append-add (taken calls) us k 0) ∙ ap (λ i. getD (taken calls ++ us) i 0) (sym place);
+      cycle = refl;
+      partner = w .1;
+    } in
     let p = passes-from mach mach2 mach3 f2 f3 (Some u) b c zs ws s2 s3 pass calls (taken calls ++ us) xs s (entry D δ s) (w .0) enters in
     let e : s + 1 ≡ stretch calls + (k + 1) = omega arith in
     subst (λ n. Handing (holding mach (mach3 .row)) f3 calls (taken calls ++ us) n c (passed D δ n) xs ws) e

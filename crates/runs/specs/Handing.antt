@@ -43,14 +43,14 @@ abbrev pub Fed : (mach mach′ : Machine) (f f′ : Frame) (us xs ys : List ℕ)
 Fed mach mach′ f f′ us xs ys r =
     (calls : Calls true) → Stands mach f calls
     → Answered xs ys r (due-feed (mach .forward) (mach .inverse) (mach .depth) calls us (length xs))
-      × Stands mach′ f′ (fed us (length xs) (due-feed (mach .forward) (mach .inverse) (mach .depth) calls us (length xs)) calls)
+    × Stands mach′ f′ (fed us (length xs) (due-feed (mach .forward) (mach .inverse) (mach .depth) calls us (length xs)) calls)
 
 -- so does a drain
 abbrev pub Drained : (mach mach′ : Machine) (f f′ : Frame) (xs ys : List ℕ) → Result ℕ Refusal → Type 0
 Drained mach mach′ f f′ xs ys r =
     (calls : Calls true) → Stands mach f calls
     → Answered xs ys r (due-drain (mach .forward) (mach .inverse) (mach .depth) calls (length xs))
-      × Stands mach′ f′ (drained (length xs) (due-drain (mach .forward) (mach .inverse) (mach .depth) calls (length xs)) calls)
+    × Stands mach′ f′ (drained (length xs) (due-drain (mach .forward) (mach .inverse) (mach .depth) calls (length xs)) calls)
 
 -- ---- on the way
 
@@ -92,14 +92,14 @@ abbrev pub Waits : (mach mach′ : Machine) (f f′ : Frame) (given given′ : �
 Waits mach mach′ f f′ given given′ ys ys′ =
     (calls : Calls true) (us xs : List ℕ) (s : ℕ) → Handing mach f calls us s given (passed (mach .depth) (distance-in calls) s) xs ys
     → Handing (holding mach (mach′ .row)) f′ calls us s given′ (entry (mach .depth) (distance-in calls) s) xs ys′
-      × ((δ : ℕ) → distance-in calls ≡ Some δ → s - (out-in (mach .depth) calls + given′) < δ)
+    × ((δ : ℕ) → distance-in calls ≡ Some δ → s - (out-in (mach .depth) calls + given′) < δ)
 
 -- all units of a feed, each in its cycle
 abbrev pub Pumps : (mach mach′ : Machine) (f f′ : Frame) (us : List ℕ) (n given : ℕ) (xs ys : List ℕ) → Type 0
 Pumps mach mach′ f f′ us n given xs ys =
     (calls : Calls true) → Stands mach f calls
     → Handing (holding mach (mach′ .row)) f′ calls (taken calls ++ us) (stretch calls + n) given
-      (passed (mach .depth) (distance-in calls) (stretch calls + n)) xs ys
+    (passed (mach .depth) (distance-in calls) (stretch calls + n)) xs ys
 
 -- what needs no history: a run whose engine, mode, way and first count are the same, with more units taken, and no more in memory or handed out
 -- than were there or came

@@ -10,8 +10,7 @@ use Rattle.runs.proofs.run.Run.pump.Needs as need
 pub loop-unit-holds : need.loop-unit-holds
 loop-unit-holds g c =
     let mach = g .E·Engine .machine in
-    let run = c .args .self .now in
-    (
+    let run = c .args .self .now in (
       onward-none (mach (run .engine)) (run .frame) 0,
       pumps-none (mach (run .engine)) (run .frame) (c .args .units .now) (c .args .out .now),
       λ _. (refl, refl, refl),
@@ -43,11 +42,10 @@ loop-unit-again g c =
     let k = l .unit-index in
     let waited = onward-then m0 m1 m2 (run .frame) (l .self .frame) (q .last .self .frame) 0 (l .given) (q .result) k 0 (l .inv .0) (q .ensures .onward) in
     let passed = onward-then m0 m2 m3 (run .frame) (q .last .self .frame) (p .last .self .frame) 0 (q .result) (p .result) (k + 0) 1 waited (p .ensures .onward) in
-    let e : k + 0 + 1 ≡ k + 1 = omega arith in
-    (
+    let e : k + 0 + 1 ≡ k + 1 = omega arith in (
       subst (λ n. Onward m0 m3 (run .frame) (p .last .self .frame) 0 (p .result) n) e passed,
       pumps-more m0 m1 m2 m3 (run .frame) (l .self .frame) (q .last .self .frame) (p .last .self .frame) (c .args .units .now) k (getD (c .args .units .now) k 0)
-      (l .given) (q .result) (p .result) (c .args .out .now) (l .out) (q .last .out) (p .last .out)
-      (l .inv .0 .engine) (waited .engine) (passed .engine) (c .loop-unit-test .taken) refl (l .inv .1) (q .ensures .waited) (p .ensures .passed),
+          (l .given) (q .result) (p .result) (c .args .out .now) (l .out) (q .last .out) (p .last .out)
+          (l .inv .0 .engine) (waited .engine) (passed .engine) (c .loop-unit-test .taken) refl (l .inv .1) (q .ensures .waited) (p .ensures .passed),
       λ z. absurd (omega arith),
     )
