@@ -8,7 +8,6 @@ returns g c =
     let f = c .args .self .now .frame in
     record {
       value = is;
-      due = λ calls stands.
-          let e = is ∙ inside-told _ f calls stands in
-          (e, e ∙ sym (in-row-told _ f calls stands));
+      due = λ calls stands. is ∙ inside-told _ f calls stands;
+      row = λ calls stands. is ∙ inside-told _ f calls stands ∙ sym (in-row-told _ f calls stands);
     }
