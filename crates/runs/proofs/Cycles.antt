@@ -1,6 +1,6 @@
 -- One cycle of a run.
 use mathlib.Core.Path.{_≡_, sym, ap, subst, _∙_}
-use mathlib.Core.List.{List, [], _∷_, _++_}
+use mathlib.Core.List.{[], _∷_, _++_}
 use Prim.Native.Nat.{ℕ, _+_}
 use native.Mathlib.Omega.{arith}
 use lib.ListN.{getD}
@@ -11,9 +11,9 @@ use Rattle.engines.specs.Machines.{Machine, directed, result, answered, turned}
 use Rattle.modes.specs.declared.mode.Mode.{Mode}
 use Rattle.modes.specs.declared.way.Way.{Way}
 use Rattle.modes.proofs.Fits.{values-within}
-use Rattle.runs.specs.Steps.{result-at, View, work-of, entered, counted}
+use Rattle.runs.specs.Steps.{result-at, View, entered, counted}
 use Rattle.runs.specs.Views.{Admitted, Released}
-use Rattle.runs.specs.Standing.{Sound, Standing, Same-engine, Outcome, Enters, Cycled}
+use Rattle.runs.specs.Standing.{Same-engine, Outcome, Cycled}
 use Rattle.runs.proofs.Turns.{moved-on, pending-size, few-inside, links-size, joined-none, result-is, joined-unit, released}
 
 pub turned-same : (mach mach′ : Machine) (work : Option Work) → mach′ ≡ turned mach work → Same-engine mach mach′

@@ -1,14 +1,14 @@
 -- The places of a ring of n numbers, used round and round: o is the oldest place, k how many are in use.
-use mathlib.Core.Path.{_≡_, refl, sym, ap, _∙_}
+use mathlib.Core.Path.{_≡_, sym, ap, _∙_}
 use mathlib.Core.List.{List, [], _∷_, _++_}
 use mathlib.Core.Logic.{_⊎_, _≢_, inl, inr, ⊎-elim}
-use Prim.Native.Nat.{ℕ, zero, suc, _+_, _-_, _%_, _<_, _≤_}
+use Prim.Native.Nat.{ℕ, _+_, _-_, _%_, _<_, _≤_}
 use native.Mathlib.Omega.{arith}
 use native.Mathlib.Nat.{mod-eq-of-lt, mod-add-mod, add-mod-right, mod-lt, add-zero}
 use lib.ListN.{length, getD, take, drop, set}
 use Rattle.std.proofs.shelf.Lists.{length-take-le, length-append, length-drop, length-set, length-push, getD-take, getD-past, getD-drop, getD-append-left, getD-append-right, getD-push, getD-set-same, getD-set-other, ext-getD}
 use Rattle.std.proofs.shelf.Tests.{cases-lt}
-use Rattle.std.specs.declared.option.Option.the-variants.{Some, None}
+use Rattle.std.specs.declared.option.Option.the-variants.{Some}
 use Rattle.runs.specs.Rings.{first-of}
 
 -- once round at most

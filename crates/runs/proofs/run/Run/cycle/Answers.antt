@@ -20,13 +20,13 @@ returns g c =
     let turn = c .clock-answer .ensures in
     let count = c .count-cycle .ensures in
     let out = c .release .ensures in
-    let rel =
-    released-at (run .frame .mode) (c .count-cycle .last .self .mode) (run .frame .way) (c .count-cycle .last .self .way) (counted v1) v2 v3
-    (c .clock-answer .result) (c .release .result) (count .same .0 ∙ entered .same .0) (count .same .1 ∙ entered .same .1) (count .after) (out .after) in
     record {
       cycled =
           cycled mach0 mach1 (run .frame .mode) (run .frame .way) v0 v1 v3 (c .admit-input .result) (c .clock-answer .result) (c .release .result)
-          (turn .answer) (turn .after) rel (c .args .unit) (entered .after);
+          (turn .answer) (turn .after)
+          (released-at (run .frame .mode) (c .count-cycle .last .self .mode) (run .frame .way) (c .count-cycle .last .self .way) (counted v1) v2 v3
+          (c .clock-answer .result) (c .release .result) (count .same .0 ∙ entered .same .0) (count .same .1 ∙ entered .same .1) (count .after) (out .after))
+          (c .args .unit) (entered .after);
       same = (
         turned-same mach0 mach1 (c .admit-input .result) (turn .after),
         (out .same .0 ∙ count .same .0 ∙ entered .same .0, out .same .1 ∙ count .same .1 ∙ entered .same .1, out .same .2 ∙ count .same .2 ∙ entered .same .2),
