@@ -1,14 +1,13 @@
 -- What goes into the chain, unit by unit, by family: f is the family, w its width, δ as many as the initial values.
-use mathlib.Core.Path.{_≡_, refl, sym, ap, _∙_}
+use mathlib.Core.Path.{_≡_, sym, ap, _∙_}
 use mathlib.Core.List.{List, [], _∷_, _++_}
-use Prim.Native.Nat.{ℕ, _+_, _-_, _/_, _^_, _<_, _≤_}
+use Prim.Native.Nat.{ℕ, _+_, _-_, _<_, _≤_}
 use native.Mathlib.Omega.{arith}
 use native.Mathlib.Nat.{div-one}
 use native.Mathlib.Numerals.{add-one}
-use lib.ListN.{length, getD, take, drop}
+use lib.ListN.{length, getD, drop}
 use lib.Bits.{bitXor, xor-comm, xor-zero-r}
 use Rattle.std.proofs.shelf.Lists.{append-assoc, getD-take, length-append, length-take-le, take-more, drop-append-le, drop-drop}
-use Rattle.std.specs.declared.option.Option.{Option}
 use Rattle.std.specs.declared.option.Option.the-variants.{Some, None}
 use Rattle.modes.specs.declared.family.Family.{Family}
 use Rattle.modes.specs.declared.family.Family.the-variants.{Codebook, Chaining, CipherFeedback, OutputFeedback}

@@ -1,7 +1,6 @@
 -- What comes out of an engine's row in each cycle of a stretch.
 use mathlib.Core.Path.{_≡_, refl, sym, ap, subst, _∙_}
 use mathlib.Core.List.{List, [], _∷_, _++_, map}
-use mathlib.Core.Bool.{cond}
 use mathlib.Core.Logic.{_⊎_, ⊎-elim}
 use Prim.Native.Nat.{ℕ, zero, suc, _+_, _-_, _<_, _≤_}
 use native.Mathlib.Omega.{arith}
@@ -34,13 +33,17 @@ module _ (D : ℕ) (δ : Option ℕ) (y : ℕ → ℕ) where
   -- no two come out in one cycle
   pub slot-some : (s h c : ℕ) → h < s → leaving D δ h ≡ c → slot D δ y s c ≡ Some (y h)
   slot-some zero h c l e = absurd (omega arith)
-  slot-some (suc j) h c l e =
-      ⊎-elim
-      (λ q. let ne : leaving D δ j ≡ c → ⊥ = λ z. omega (arith, entry-order D δ h j (omega arith)) in
-      cond-false (eqb (leaving D δ j) c) _ _ (ne-eqb _ _ ne) ∙ slot-some j h c q e)
-      (λ q. let same : h ≡ j = omega arith in
-      cond-true (eqb (leaving D δ j) c) _ _ (eq-eqb _ _ (ap (leaving D δ) (sym same) ∙ e)) ∙ ap (λ k. Some (y k)) (sym same))
-      (cases-lt h j)
+  slot-some (suc j) h c l e = ⊎-elim (λ q. older q (slot-some j h c q e)) newest (cases-lt h j)
+    where
+      older : h < j → slot D δ y j c ≡ Some (y h) → slot D δ y (suc j) c ≡ Some (y h)
+      older q found =
+          let later : leaving D δ j ≡ c → ⊥ = λ z. omega (arith, entry-order D δ h j (omega arith)) in
+          cond-false (eqb (leaving D δ j) c) _ _ (ne-eqb _ _ later) ∙ found
+
+      newest : j ≤ h → slot D δ y (suc j) c ≡ Some (y h)
+      newest q =
+          let same : h ≡ j = omega arith in
+          cond-true (eqb (leaving D δ j) c) _ _ (eq-eqb _ _ (ap (leaving D δ) (sym same) ∙ e)) ∙ ap (λ k. Some (y k)) (sym same)
 
 pub slot-same : (D : ℕ) (δ : Option ℕ) (y z : ℕ → ℕ) (s c : ℕ) → ((j : ℕ) → j < s → y j ≡ z j) → slot D δ y s c ≡ slot D δ z s c
 slot-same D δ y z zero c h = refl

@@ -1,4 +1,4 @@
--- Half a cycle and the other half: a unit or none joins the row, then the row moves and a result or none comes out.
+-- One cycle in two halves: a unit or none joins the row, then the row moves and a result or none comes out.
 use mathlib.Core.Path.{_≡_, refl, sym, ap, subst, _∙_}
 use mathlib.Core.List.{List, [], _∷_, _++_, map}
 use mathlib.Core.Bool.{cond}
@@ -15,7 +15,7 @@ use Rattle.std.specs.declared.option.Option.{Option}
 use Rattle.std.specs.declared.option.Option.the-variants.{Some, None}
 use Rattle.std.proofs.shelf.Lists.{getD-drop, length-append, length-drop}
 use Rattle.std.proofs.shelf.Counted.{map-counting-more, length-map-counting}
-use Rattle.std.proofs.shelf.Tests.{cases-lt, ne-eqb, lt-ltb, cond-true, cond-false}
+use Rattle.std.proofs.shelf.Tests.{cases-lt, cases-eq, ne-eqb, lt-ltb, cond-true, cond-false}
 use Rattle.engines.specs.Machines.{Machine, directed}
 use Rattle.modes.specs.declared.family.Family.{Family}
 use Rattle.modes.specs.declared.family.Family.the-variants.{Codebook, Chaining, CipherFeedback, OutputFeedback}
@@ -26,14 +26,15 @@ use Rattle.modes.specs.Bits.{leftmost, shifted}
 use Rattle.modes.specs.Results.{before, register}
 use Rattle.modes.specs.Schedule.{entry, leaving}
 use Rattle.modes.specs.Table.{row, distanceOf}
-use Rattle.modes.proofs.Fits.{Fit, fit}
+use Rattle.modes.proofs.Fits.{Fit, fit, values-within}
 use Rattle.modes.proofs.Registers.{before-same, register-same}
 use Rattle.runs.specs.Steps.{input-by, direction-by, mask-by, register-by, fed-back-by, chained, link, shift, result-at, mask-at, unit-at, View, link-place, chain-entered, chain-left, link-of, shift-of, work-of, entered, unit-of, left, counted}
-use Rattle.runs.specs.Standing.{blocks, slot, Registered, chain-end, Sound, Standing, Enters}
+use Rattle.runs.specs.Views.{Released}
+use Rattle.runs.specs.Standing.{blocks, slot, Registered, chain-end, Sound, Standing, Outcome, Enters}
 use Rattle.runs.proofs.Chains.{distance-is, length-chained, chained-agree, chained-enters, chained-leaves, chain-moves}
 use Rattle.runs.proofs.Slots.{entry-order, slot-none, slot-some, map-same, blocks-none, blocks-some, blocks-stay, blocks-go}
 
--- the engine's row with what came in this cycle at its end, before it moves
+-- how a run stands between the halves: at the end of the engine's places is what came in this cycle
 pub record Joined (mach : Machine) (m : Mode) (way : Way) (ivs us : List ℕ) (base s h t past : ℕ) (places : List (Option ℕ)) (v : View) : Type 0 where
   pub taken : v .taken ≡ base + s
   pub within : base + s ≤ length us
@@ -49,7 +50,7 @@ pub record Joined (mach : Machine) (m : Mode) (way : Way) (ivs us : List ℕ) (b
   pub registered : Registered (row m .family) (shift (mach .forward) (mach .inverse) m way ivs us) (base + s) (v .register)
   pub clocked : v .cycles ≡ (past + t) % 2 ^ 64
 
--- what a machine becomes as its row moves
+-- what a machine becomes as its places move up
 abbrev pub moved-on : Machine → List (Option ℕ) → Machine
 moved-on mach places = record { forward = mach .forward; inverse = mach .inverse; depth = mach .depth; row = drop 1 places }
 
@@ -81,8 +82,20 @@ module _ (mach : Machine) (m : Mode) (way : Way) (ivs us : List ℕ) (ok : Sound
   abbrev mask : ℕ → ℕ
   mask i = mask-at (mach .forward) (mach .inverse) m way ivs us i
 
+  abbrev unit : ℕ → ℕ
+  unit i = unit-at (mach .forward) (mach .inverse) m way ivs us i
+
+  abbrev L : ℕ → ℕ
+  L i = link (mach .forward) (mach .inverse) m way ivs us i
+
+  abbrev R : ℕ → ℕ
+  R i = shift (mach .forward) (mach .inverse) m way ivs us i
+
   abbrev C : ℕ → List ℕ
   C n = chained (mach .forward) (mach .inverse) m way ivs us n
+
+  agree : (a b k : ℕ) → k < a → k < b → getD (C a) k 0 ≡ getD (C b) k 0
+  agree = chained-agree (mach .forward) (row m .width) ivs us (row m .family) way
 
   -- the chain, where a units have entered and b are out
   abbrev chain-at : Option ℕ → ℕ → ℕ → List ℕ
@@ -100,6 +113,8 @@ module _ (mach : Machine) (m : Mode) (way : Way) (ivs us : List ℕ) (ok : Sound
           length-drop n (ivs ++ C n)
           ∙ omega (arith, length-append ivs (C n), length-chained (mach .forward) (row m .width) ivs us (row m .family) way n l, ok .begins .count)
 
+  -- ---- what comes in joins the row
+
   module _ (base s h t past : ℕ) (v : View) (st : Standing mach m way ivs us base s h t past v) where
     pub pending-size : length (v .pending) ≡ s - h
     pending-size = ap length (st .masks) ∙ length-map-counting mask (base + h) (s - h)
@@ -113,13 +128,23 @@ module _ (mach : Machine) (m : Mode) (way : Way) (ivs us : List ℕ) (ok : Sound
         (λ l. omega arith)
         (cases-lt h s)
 
-    -- nothing enters
-    pub joined-idle : Joined mach m way ivs us base s h t past (mach .row ++ None ∷ []) v
-    joined-idle =
-        let f = slot D δ (λ j. y (base + j)) s in
+    pub links-size : length (v .chain) ≡ row m .values
+    links-size =
+        let within = st .within in
+        let some = st .some in
+        ap length (st .links) ∙ chain-size δ (base + s) (base + h) within (omega arith)
+
+    -- the slots of the next D - 1 cycles and one more
+    line-more : (f : ℕ → Option ℕ) (x : Option ℕ) → mach .row ≡ map f (counting t (D - 1)) → f (t + (D - 1)) ≡ x → mach .row ++ x ∷ [] ≡ map f (counting t D)
+    line-more f x line last =
         let deep = ok .deep in
         let e : D - 1 + 1 ≡ D = omega arith in
-        let z : f (t + (D - 1)) ≡ None = slot-none D δ _ s (t + (D - 1)) (λ j l q. omega (arith, st .due j l)) in
+        ap (λ r. r ++ x ∷ []) line ∙ ap (λ z. map f (counting t (D - 1)) ++ z ∷ []) (sym last)
+        ∙ sym (map-counting-more f t (D - 1) (t + (D - 1)) refl) ∙ ap (λ k. map f (counting t k)) e
+
+    -- nothing comes in
+    pub joined-none : Joined mach m way ivs us base s h t past (mach .row ++ None ∷ []) v
+    joined-none =
         record {
           taken = st .taken;
           within = st .within;
@@ -127,8 +152,7 @@ module _ (mach : Machine) (m : Mode) (way : Way) (ivs us : List ℕ) (ok : Sound
           gone = st .gone;
           here = st .here;
           due = λ j l. omega (arith, st .due j l);
-          line = ap (λ r. r ++ None ∷ []) (st .line) ∙ ap (λ x. map f (counting t (D - 1)) ++ x ∷ []) (sym z)
-              ∙ sym (map-counting-more f t (D - 1) (t + (D - 1)) refl) ∙ ap (λ k. map f (counting t k)) e;
+          line = line-more _ None (st .line) (slot-none D δ (λ j. y (base + j)) s (t + (D - 1)) (λ j l q. omega (arith, st .due j l)));
           full = blocks-none (mach .row) ∙ st .full;
           masks = st .masks;
           links = st .links;
@@ -136,54 +160,50 @@ module _ (mach : Machine) (m : Mode) (way : Way) (ivs us : List ℕ) (ok : Sound
           clocked = st .clocked;
         }
 
-    -- a unit enters in its cycle
+    -- a unit comes in, in its cycle
     module _ (u : ℕ) (en : Enters mach m way us base s h t u) where
       -- the chain has what it asks for
-      link-is : link-of m way v ≡ link (mach .forward) (mach .inverse) m way ivs us (base + s)
+      link-is : link-of m way v ≡ L (base + s)
       link-is =
-          ap (λ k. getD (v .chain) (link-place δ k) 0) pending-size
-          ∙ ap (λ c. getD c (link-place δ (s - h)) 0) (st .links)
+          ap (λ k. getD (v .chain) (link-place δ k) 0) pending-size ∙ ap (λ c. getD c (link-place δ (s - h)) 0) (st .links)
           ∙ at δ refl
         where
-          at : (d : Option ℕ) → δ ≡ d → getD (chain-at d (base + s) (base + h)) (link-place d (s - h)) 0 ≡ before ivs (C (base + s)) (base + s)
+          at : (d : Option ℕ) → δ ≡ d → getD (chain-at d (base + s) (base + h)) (link-place d (s - h)) 0 ≡ L (base + s)
           at None e = getD-drop (base + s) (ivs ++ C (base + s)) 0 0 ∙ ap (λ k. getD (ivs ++ C (base + s)) k 0) (omega arith)
           at (Some d) e =
               let waits = en .partner d e in
               let some = st .some in
               let count : length ivs ≡ d = ok .begins .count ∙ sym (distance-is (row m .family) way (row m .values) d e) in
-              getD-drop (base + h) (ivs ++ C (base + h)) (s - h) 0
-              ∙ ap (λ k. before ivs (C (base + h)) k) (omega arith)
-              ∙ before-same ivs (C (base + h)) (C (base + s)) (base + s)
-              (λ j q. chained-agree (mach .forward) (row m .width) ivs us (row m .family) way (base + h) (base + s) j (omega arith) (omega arith))
+              getD-drop (base + h) (ivs ++ C (base + h)) (s - h) 0 ∙ ap (λ k. before ivs (C (base + h)) k) (omega arith)
+              ∙ before-same ivs (C (base + h)) (C (base + s)) (base + s) (λ j q. agree (base + h) (base + s) j (omega arith) (omega arith))
 
-      -- so has the register
-      shift-is : row m .family ≡ CipherFeedback → shift-of m way v ≡ shift (mach .forward) (mach .inverse) m way ivs us (base + s)
-      shift-is ef = at (base + s) refl
-        where
-          pos : 0 < row m .values
-          pos = (subst (λ f. Fit f (row m .width) (row m .values)) ef (fit m)) .1
+      -- in cipher feedback the register is the one that it asks for
+      module _ (feedback : row m .family ≡ CipherFeedback) where
+        some-value : 0 < row m .values
+        some-value = (subst (λ f. Fit f (row m .width) (row m .values)) feedback (fit m)) .1
 
-          last : 0 < base + s → v .register ≡ shift (mach .forward) (mach .inverse) m way ivs us (base + s - 1)
-          last = subst (λ f. Registered f (shift (mach .forward) (mach .inverse) m way ivs us) (base + s) (v .register)) ef (st .registered)
+        register-before : 0 < base + s → v .register ≡ R (base + s - 1)
+        register-before = subst (λ f. Registered f R (base + s) (v .register)) feedback (st .registered)
 
-          at : (n : ℕ) → n ≡ base + s → shift-of m way v ≡ shift (mach .forward) (mach .inverse) m way ivs us n
-          at zero q =
-              let lt : v .taken < row m .values = omega (arith, st .taken, pos) in
-              cond-true _ _ _ (lt-ltb (v .taken) (row m .values) lt) ∙ link-is ∙ ap (link (mach .forward) (mach .inverse) m way ivs us) (sym q)
-          at (suc n) q =
-              let L = link (mach .forward) (mach .inverse) m way ivs us (suc n) in
-              let lk : link-of m way v ≡ L = link-is ∙ ap (link (mach .forward) (mach .inverse) m way ivs us) (sym q) in
-              let tk : v .taken ≡ suc n = st .taken ∙ sym q in
-              let lv : row m .values ≡ length ivs = sym (ok .begins .count) in
-              let some-value = pos in
-              let rg : v .register ≡ register (row m .width) ivs (C (suc n)) n =
-              last (omega arith) ∙ ap (shift (mach .forward) (mach .inverse) m way ivs us) (omega arith)
-              ∙ register-same (row m .width) ivs (C n) (C (suc n)) n
-              (λ j l. chained-agree (mach .forward) (row m .width) ivs us (row m .family) way n (suc n) j (omega arith) (omega arith)) in
-              ap (λ x. cond (ltb x (row m .values)) (link-of m way v) (shifted (row m .width) (v .register) (link-of m way v))) tk
-              ∙ ap (λ x. cond (ltb (suc n) x) (link-of m way v) (shifted (row m .width) (v .register) (link-of m way v))) lv
-              ∙ ap (λ x. cond (ltb (suc n) (length ivs)) x (shifted (row m .width) (v .register) x)) lk
-              ∙ ap (λ x. cond (ltb (suc n) (length ivs)) L (shifted (row m .width) x L)) rg
+        shift-at : (n : ℕ) → n ≡ base + s → shift-of m way v ≡ R n
+        shift-at zero q =
+            let lt : v .taken < row m .values = omega (arith, st .taken, some-value) in
+            cond-true _ _ _ (lt-ltb (v .taken) (row m .values) lt) ∙ link-is ∙ ap L (sym q)
+        shift-at (suc n) q =
+            let w = row m .width in
+            let taken : v .taken ≡ suc n = st .taken ∙ sym q in
+            let count = ok .begins .count in
+            let linked : link-of m way v ≡ L (suc n) = link-is ∙ ap L (sym q) in
+            let positive = some-value in
+            let kept : v .register ≡ R n = register-before (omega arith) ∙ ap R (omega arith) in
+            let longer : R n ≡ register w ivs (C (suc n)) n = register-same w ivs (C n) (C (suc n)) n (λ j l. agree n (suc n) j (omega arith) (omega arith)) in
+            ap (λ x. cond (ltb x (row m .values)) (link-of m way v) (shifted w (v .register) (link-of m way v))) taken
+            ∙ ap (λ x. cond (ltb (suc n) x) (link-of m way v) (shifted w (v .register) (link-of m way v))) (sym count)
+            ∙ ap (λ x. cond (ltb (suc n) (length ivs)) x (shifted w (v .register) x)) linked
+            ∙ ap (λ x. cond (ltb (suc n) (length ivs)) (L (suc n)) (shifted w x (L (suc n)))) (kept ∙ longer)
+
+      shift-is : row m .family ≡ CipherFeedback → shift-of m way v ≡ R (base + s)
+      shift-is feedback = shift-at feedback (base + s) refl
 
       pub result-is : directed (mach .forward) (mach .inverse) (work-of m way v u .direction) (work-of m way v u .block) ≡ y (base + s)
       result-is =
@@ -193,17 +213,22 @@ module _ (mach : Machine) (m : Mode) (way : Way) (ivs us : List ℕ) (ok : Sound
 
       line-joined : mach .row ++ Some (y (base + s)) ∷ [] ≡ map (slot D δ (λ j. y (base + j)) (s + 1)) (counting t D)
       line-joined =
-          let old = slot D δ (λ j. y (base + j)) s in
-          let new = slot D δ (λ j. y (base + j)) (s + 1) in
           let deep = ok .deep in
           let cycle = en .cycle in
-          let e : D - 1 + 1 ≡ D = omega arith in
-          let same : (c : ℕ) → t ≤ c → c < t + (D - 1) → old c ≡ new c = λ c l r.
-          sym (ap (λ k. slot D δ (λ j. y (base + j)) k c) (add-one s) ∙ cond-false (eqb (leaving D δ s) c) _ _ (ne-eqb _ _ (λ z. absurd (omega arith)))) in
-          let last : new (t + (D - 1)) ≡ Some (y (base + s)) = slot-some D δ (λ j. y (base + j)) (s + 1) s (t + (D - 1)) (omega arith) (omega arith) in
-          ap (λ r. r ++ Some (y (base + s)) ∷ []) (st .line ∙ map-same old new t (D - 1) same)
-          ∙ ap (λ x. map new (counting t (D - 1)) ++ x ∷ []) (sym last)
-          ∙ sym (map-counting-more new t (D - 1) (t + (D - 1)) refl) ∙ ap (λ k. map new (counting t k)) e
+          line-more new (Some (y (base + s))) (st .line ∙ map-same old new t (D - 1) same)
+          (slot-some D δ (λ j. y (base + j)) (s + 1) s (t + (D - 1)) (omega arith) (omega arith))
+        where
+          old : ℕ → Option ℕ
+          old c = slot D δ (λ j. y (base + j)) s c
+
+          new : ℕ → Option ℕ
+          new c = slot D δ (λ j. y (base + j)) (s + 1) c
+
+          same : (c : ℕ) → t ≤ c → c < t + (D - 1) → old c ≡ new c
+          same c l r =
+              let cycle = en .cycle in
+              let not-yet : leaving D δ s ≡ c → ⊥ = λ z. omega arith in
+              sym (ap (λ k. slot D δ (λ j. y (base + j)) k c) (add-one s) ∙ cond-false (eqb (leaving D δ s) c) _ _ (ne-eqb _ _ not-yet))
 
       masks-entered : entered m way v u .pending ≡ map mask (counting (base + h) (s + 1 - h))
       masks-entered =
@@ -226,30 +251,33 @@ module _ (mach : Machine) (m : Mode) (way : Way) (ivs us : List ℕ) (ok : Sound
               ∙ ap (λ k. drop k (ivs ++ C k)) (omega arith)
           at (Some d) e = refl
 
+      here-entered : h < s + 1 → t ≤ leaving D δ h
+      here-entered l = ⊎-elim (st .here) (λ (q : s ≤ h). let e : h ≡ s = omega (arith, st .some) in rw e (omega (arith, en .cycle))) (cases-lt h s)
+
+      due-entered : (j : ℕ) → j < s + 1 → entry D δ j ≤ t
+      due-entered j l = ⊎-elim (λ q. omega (arith, st .due j q)) (λ (q : s ≤ j). let e : j ≡ s = omega arith in rw e (omega (arith, en .cycle))) (cases-lt j s)
+
       pub joined-unit : Joined mach m way ivs us base (s + 1) h t past (mach .row ++ Some (y (base + s)) ∷ []) (entered m way v u)
       joined-unit =
           let some = st .some in
-          let cycle = en .cycle in
           record {
             taken = omega (arith, st .taken);
             within = omega (arith, en .next);
             some = omega arith;
             gone = st .gone;
-            here = λ l. ⊎-elim (λ q. st .here q) (λ (q : s ≤ h). let e : h ≡ s = omega arith in rw e (omega arith)) (cases-lt h s);
-            due = λ j l. ⊎-elim (λ q. omega (arith, st .due j q)) (λ (q : s ≤ j). let e : j ≡ s = omega arith in rw e (omega arith)) (cases-lt j s);
+            here = here-entered;
+            due = due-entered;
             line = line-joined;
             full = blocks-some (mach .row) (y (base + s)) ∙ omega (arith, st .full);
             masks = masks-entered;
             links = links-entered;
-            registered = registered-next (row m .family) (shift (mach .forward) (mach .inverse) m way ivs us) (base + s) (base + (s + 1)) (v .register) (shift-of m way v) (omega arith) shift-is;
+            registered = registered-next (row m .family) R (base + s) (base + (s + 1)) (v .register) (shift-of m way v) (omega arith) shift-is;
             clocked = st .clocked;
           }
 
-  -- the row moves, and what stands at its front comes out
-  module _ (base s h t past : ℕ) (places : List (Option ℕ)) (v : View) (jn : Joined mach m way ivs us base s h t past places v) where
-    pub inside-size : length (v .pending) ≡ s - h
-    inside-size = ap length (jn .masks) ∙ length-map-counting mask (base + h) (s - h)
+  -- ---- the row moves, and what stands at its front comes out
 
+  module _ (base s h t past : ℕ) (places : List (Option ℕ)) (v : View) (jn : Joined mach m way ivs us base s h t past places v) where
     clocked-next : (v .cycles + 1) % 2 ^ 64 ≡ (past + (t + 1)) % 2 ^ 64
     clocked-next = ap (λ c. (c + 1) % 2 ^ 64) (jn .clocked) ∙ mod-add-mod (past + t) (2 ^ 64) 1 ∙ ap (λ k. k % 2 ^ 64) (omega arith)
 
@@ -262,22 +290,22 @@ module _ (mach : Machine) (m : Mode) (way : Way) (ivs us : List ℕ) (ok : Sound
     front-is : getD places 0 None ≡ slot D δ (λ j. y (base + j)) s t
     front-is = ap (λ r. getD r 0 None) line-split
 
-    -- nothing comes out
+    -- the oldest unit inside, if there is one, is not due
     module _ (not-due : h < s → leaving D δ h ≡ t → ⊥) where
-      pub front-empty : getD places 0 None ≡ None
-      front-empty =
-          front-is
-          ∙ slot-none D δ (λ j. y (base + j)) s t
-          (λ j l e. ⊎-elim
-          (λ q. omega (arith, jn .gone j q))
-          (λ q. ⊎-elim
-          (λ r. omega (arith, jn .here (omega arith), entry-order D δ h j (omega arith)))
-          (λ r. let same : h ≡ j = omega arith in not-due (omega arith) (ap (leaving D δ) same ∙ e))
-          (cases-lt h j))
-          (cases-lt j h))
+      none-due : (j : ℕ) → j < s → leaving D δ j ≡ t → ⊥
+      none-due j l e = ⊎-elim (λ q. omega (arith, jn .gone j q)) (λ (q : h ≤ j). ⊎-elim (later q) (λ (r : j ≤ h). same (omega arith)) (cases-lt h j)) (cases-lt j h)
+        where
+          later : h ≤ j → h < j → ⊥
+          later q r = omega (arith, jn .here (omega arith), entry-order D δ h j q)
 
-      pub still-standing : Standing (moved-on mach places) m way ivs us base s h (t + 1) past (counted v)
-      still-standing =
+          same : h ≡ j → ⊥
+          same q = not-due (omega arith) (ap (leaving D δ) q ∙ e)
+
+      front-empty : getD places 0 None ≡ None
+      front-empty = front-is ∙ slot-none D δ (λ j. y (base + j)) s t none-due
+
+      standing-still : Standing (moved-on mach places) m way ivs us base s h (t + 1) past (counted v)
+      standing-still =
           record {
             taken = jn .taken;
             within = jn .within;
@@ -293,9 +321,16 @@ module _ (mach : Machine) (m : Mode) (way : Way) (ivs us : List ℕ) (ok : Sound
             clocked = clocked-next;
           }
 
-    -- the oldest unit inside comes out
+      none-released : (v′ : View) (answer r : Option ℕ) → answer ≡ getD places 0 None → Released m way (counted v) v′ answer r
+          → Outcome (moved-on mach places) m way ivs us base s h t past v′ r
+      none-released v′ answer r ea rel =
+          let none : Released m way (counted v) v′ None r = subst (λ a. Released m way (counted v) v′ a r) (ea ∙ front-empty) rel in
+          subst (λ x. Outcome (moved-on mach places) m way ivs us base s h t past v′ x) (sym (none .0))
+          (subst (λ x. Standing (moved-on mach places) m way ivs us base s h (t + 1) past x) (sym (none .1)) standing-still)
+
+    -- the oldest unit inside is due
     module _ (some : h < s) (now : leaving D δ h ≡ t) where
-      pub front-full : getD places 0 None ≡ Some (y (base + h))
+      front-full : getD places 0 None ≡ Some (y (base + h))
       front-full = front-is ∙ slot-some D δ (λ j. y (base + j)) s h t some now
 
       masks-split : v .pending ≡ mask (base + h) ∷ map mask (counting (base + (h + 1)) (s - (h + 1)))
@@ -303,7 +338,7 @@ module _ (mach : Machine) (m : Mode) (way : Way) (ivs us : List ℕ) (ok : Sound
           let e : s - h ≡ suc (s - (h + 1)) = omega arith in
           jn .masks ∙ ap (λ k. map mask (counting (base + h) k)) e ∙ ap (λ k. mask (base + h) ∷ map mask (counting k (s - (h + 1)))) (omega arith)
 
-      pub unit-is : unit-of m way v (y (base + h)) ≡ unit-at (mach .forward) (mach .inverse) m way ivs us (base + h)
+      unit-is : unit-of m way v (y (base + h)) ≡ unit (base + h)
       unit-is = ap (λ p. bitXor (leftmost (row m .width) (y (base + h))) (getD p 0 0)) masks-split
 
       links-left : left m way v (y (base + h)) .chain ≡ chain-at δ (base + s) (base + (h + 1))
@@ -312,7 +347,8 @@ module _ (mach : Machine) (m : Mode) (way : Way) (ivs us : List ℕ) (ok : Sound
           ∙ ap (λ x. chain-left δ (chain-at δ (base + s) (base + h)) (fed-back-by (row m .family) (y (base + h)) x)) unit-is
           ∙ at δ refl
         where
-          at : (d : Option ℕ) → δ ≡ d → chain-left d (chain-at d (base + s) (base + h)) (fed-back-by (row m .family) (y (base + h)) (unit-at (mach .forward) (mach .inverse) m way ivs us (base + h))) ≡ chain-at d (base + s) (base + (h + 1))
+          at : (d : Option ℕ) → δ ≡ d
+              → chain-left d (chain-at d (base + s) (base + h)) (fed-back-by (row m .family) (y (base + h)) (unit (base + h))) ≡ chain-at d (base + s) (base + (h + 1))
           at None e = refl
           at (Some d) e =
               let within = jn .within in
@@ -320,13 +356,16 @@ module _ (mach : Machine) (m : Mode) (way : Way) (ivs us : List ℕ) (ok : Sound
               (chained-leaves (mach .forward) (row m .width) ivs us (mach .inverse) (row m .family) way (row m .values) d (base + h) (fit m) e)
               ∙ ap (λ k. drop k (ivs ++ C k)) (omega arith)
 
-      pub standing-left : Standing (moved-on mach places) m way ivs us base s (h + 1) (t + 1) past (counted (left m way v (y (base + h))))
+      gone-left : (j : ℕ) → j < h + 1 → leaving D δ j < t + 1
+      gone-left j l = ⊎-elim (λ q. omega (arith, jn .gone j q)) (λ (q : h ≤ j). let e : j ≡ h = omega arith in rw e (omega arith)) (cases-lt j h)
+
+      standing-left : Standing (moved-on mach places) m way ivs us base s (h + 1) (t + 1) past (counted (left m way v (y (base + h))))
       standing-left =
           record {
             taken = jn .taken;
             within = jn .within;
             some = omega arith;
-            gone = λ j l. ⊎-elim (λ q. omega (arith, jn .gone j q)) (λ (q : h ≤ j). let e : j ≡ h = omega arith in rw e (omega arith)) (cases-lt j h);
+            gone = gone-left;
             here = λ l. omega (arith, entry-order D δ h (h + 1) (omega arith));
             due = λ j l. omega (arith, jn .due j l);
             line = ap (drop 1) line-split;
@@ -336,3 +375,23 @@ module _ (mach : Machine) (m : Mode) (way : Way) (ivs us : List ℕ) (ok : Sound
             registered = jn .registered;
             clocked = clocked-next;
           }
+
+      unit-released : (v′ : View) (answer r : Option ℕ) → answer ≡ getD places 0 None → Released m way (counted v) v′ answer r
+          → Outcome (moved-on mach places) m way ivs us base s h t past v′ r
+      unit-released v′ answer r ea rel =
+          let within = jn .within in
+          let waiting = ap length masks-split in
+          let long = ap length (jn .links) ∙ chain-size δ (base + s) (base + h) within (omega arith) in
+          let few = values-within m in
+          let one : Released m way (counted v) v′ (Some (y (base + h))) r = subst (λ a. Released m way (counted v) v′ a r) (ea ∙ front-full) rel in
+          let out = one (omega arith) (omega arith) in
+          subst (λ x. Outcome (moved-on mach places) m way ivs us base s h t past v′ x) (sym (out .0))
+          (some, unit-is, subst (λ x. Standing (moved-on mach places) m way ivs us base s (h + 1) (t + 1) past x) (sym (out .1)) standing-left)
+
+    pub released : (v′ : View) (answer r : Option ℕ) → answer ≡ getD places 0 None → Released m way (counted v) v′ answer r
+        → Outcome (moved-on mach places) m way ivs us base s h t past v′ r
+    released v′ answer r ea rel = ⊎-elim inside (λ l. none-released (λ q. absurd (omega arith)) v′ answer r ea rel) (cases-lt h s)
+      where
+        inside : h < s → Outcome (moved-on mach places) m way ivs us base s h t past v′ r
+        inside l =
+            ⊎-elim (λ now. unit-released l now v′ answer r ea rel) (λ ne. none-released (λ _. ne) v′ answer r ea rel) (cases-eq (leaving D δ h) t)

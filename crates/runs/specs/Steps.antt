@@ -124,8 +124,12 @@ module _ (m : Mode) (way : Way) where
   abbrev pub link-of : View → ℕ
   link-of v = getD (v .chain) (link-place (distanceOf m way) (length (v .pending))) 0
 
+  -- the register for the next unit, where the chain has l for it
+  abbrev pub shift-from : View → ℕ → ℕ
+  shift-from v l = cond (ltb (v .taken) (row m .values)) l (shifted (row m .width) (v .register) l)
+
   abbrev pub shift-of : View → ℕ
-  shift-of v = cond (ltb (v .taken) (row m .values)) (link-of v) (shifted (row m .width) (v .register) (link-of v))
+  shift-of v = shift-from v (link-of v)
 
   -- what goes into the engine for unit u
   abbrev pub work-of : View → ℕ → Work

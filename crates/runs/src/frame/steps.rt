@@ -5,7 +5,7 @@ ghost use lib.ListN.{length};
 ghost use Rattle.std.specs.declared.option.Option.the-variants.{Some};
 ghost use Rattle.calls.specs.Limits.{unit-limit};
 ghost use Rattle.runs.specs.Rings.{items, one-if};
-ghost use Rattle.runs.specs.Steps.{input-by, mask-by, direction-by, register-by, fed-back-by, link-of, shift-of, counted};
+ghost use Rattle.runs.specs.Steps.{input-by, mask-by, direction-by, register-by, fed-back-by, link-of, shift-from, counted};
 ghost use Rattle.runs.specs.Views.{view, Kept, Admitted, Released};
 use super::Frame;
 use cipher::Block;
@@ -81,7 +81,7 @@ impl Frame {
 
     /// The register for the next unit, where the chain has `link` for it.
     fn shifted(&self, link: u64) -> Block
-        ensures { λ r. ⌜ (link ≡ link-of (now (self .entry) .mode) (now (self .entry) .way) (view (now (self .entry))) → r ≡ shift-of (now (self .entry) .mode) (now (self .entry) .way) (view (now (self .entry)))) ⌝ }
+        ensures { λ r. ⌜ r ≡ shift-from (now (self .entry) .mode) (now (self .entry) .way) (view (now (self .entry))) link ⌝ }
     {
         if self.taken < self.mode.initial_values() {
             link
