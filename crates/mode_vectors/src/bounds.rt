@@ -1,11 +1,13 @@
 //! Calls at the bounds: the last units that a cartridge takes, and an output list with no place.
 use cipher::dea::Dea;
 use cipher::dea::blocks::DeaCipher;
+use engines::engine::Engine;
 use engines::line::Line;
 use engines::line::LineEngine;
 use modes::order::Order;
 use refusals::Refusal;
 use runs::cartridge::Cartridge;
+use runs::run::EncipheringRun;
 use std::error::AnyError;
 
 /// How many units are fed at once.
@@ -41,21 +43,31 @@ struct NearLimit {
     count: usize,
 }
 
+/// Feeds as many units as `units` has, and drains them.
+fn feed_and_drain<E: Engine>(run: &mut EncipheringRun<E>, units: &[u64]) {
+    let mut out = [0; CHUNK];
+    let _ = run.feed(units, &mut out);
+    let _ = run.drain(&mut out);
+}
+
+/// Offers some units, with room enough.
+fn offer<E: Engine>(run: &mut EncipheringRun<E>, units: &[u64]) -> Result<usize, Refusal> {
+    let mut out = [0; 4];
+    run.feed(units, &mut out)
+}
+
 /// Takes a cartridge up to one unit below its limit, in the codebook mode, and then offers more.
 fn near_limit(order: Order) -> NearLimit {
     let units = [7; CHUNK];
-    let mut out = [0; CHUNK];
     let mut run = Cartridge::new(line()).start_enciphering(order);
     for _ in 0..255 {
-        let _ = run.feed(&units, &mut out);
-        let _ = run.drain(&mut out);
+        feed_and_drain(&mut run, &units);
     }
-    let _ = run.feed(&units[0..CHUNK - 1], &mut out);
-    let _ = run.drain(&mut out);
+    feed_and_drain(&mut run, &units[0..CHUNK - 1]);
     let taken = run.units_taken();
-    let two_more = run.feed(&[1, 2], &mut out);
-    let one_more = run.feed(&[1], &mut out);
-    let another = run.feed(&[1], &mut out);
+    let two_more = offer(&mut run, &[1, 2]);
+    let one_more = offer(&mut run, &[1]);
+    let another = offer(&mut run, &[1]);
     let count = run.close().count();
     NearLimit {
         taken,

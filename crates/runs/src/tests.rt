@@ -45,8 +45,8 @@ fn next(number: u64) -> u64 {
 /// Calls as the number says, refused ones among them; answers the cycles told.
 fn calls<E: Engine, W>(run: &mut Run<E, W>, mode: Mode, seed: u64) -> u64 {
     let mut number = seed;
-    let mut out = [0; 12];
     for _ in 0..9 {
+        let mut out = [0; 12];
         number = next(number);
         let count = (number >> 60) as usize % 8;
         let room = (number >> 40) as usize % 13;

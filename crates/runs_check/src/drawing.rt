@@ -19,29 +19,30 @@ pub fn pick(numbers: &mut Numbers, n: u64) -> u64
     if n == 0 { 0 } else { drawn % n }
 }
 
-/// An opening that is taken, and a way.
-pub fn draw_order(numbers: &mut Numbers) -> Option<(Order, Way)> {
-    let code = (1 + pick(numbers, 11)) as u8;
-    let first = numbers.draw().to_be_bytes();
-    let second = numbers.draw().to_be_bytes();
-    let third = numbers.draw().to_be_bytes();
+/// Three blocks, in bytes.
+fn draw_bytes(numbers: &mut Numbers) -> [u8; 24] {
+    let blocks = [numbers.draw(), numbers.draw(), numbers.draw()];
     let mut bytes = [0u8; 24];
-    for i in 0..8 {
-        bytes[i] = first[i];
-        bytes[8 + i] = second[i];
-        bytes[16 + i] = third[i];
+    for i in 0..24 {
+        bytes[i] = blocks[i / 8].to_be_bytes()[i % 8];
     }
-    let way = if pick(numbers, 2) == 0 {
+    bytes
+}
+
+/// An opening that is taken.
+pub fn draw_order(numbers: &mut Numbers) -> Option<Order> {
+    let code = (1 + pick(numbers, 11)) as u8;
+    let bytes = draw_bytes(numbers);
+    let mode = Mode::from_code(code)?;
+    Order::check(code, &bytes[0..8 * mode.initial_values()]).ok()
+}
+
+pub fn draw_way(numbers: &mut Numbers) -> Way {
+    if pick(numbers, 2) == 0 {
         Way::Enciphering
     } else {
         Way::Deciphering
-    };
-    let mode = Mode::from_code(code)?;
-    let order = match Order::check(code, &bytes[0..8 * mode.initial_values()]) {
-        Ok(order) => order,
-        Err(_) => return None,
-    };
-    Some((order, way))
+    }
 }
 
 /// A unit, seldom one that may be too wide.

@@ -3,6 +3,7 @@ use crate::digest::Digest;
 use crate::drawing::draw_order;
 use crate::drawing::draw_room;
 use crate::drawing::draw_units;
+use crate::drawing::draw_way;
 use crate::drawing::fresh_output;
 use crate::drawing::pick;
 use engines::engine::Engine;
@@ -105,7 +106,8 @@ pub fn drive<E: Engine + Drop>(engine: E, numbers: &mut Numbers) -> Tally {
     let mut cartridge = Cartridge::new(engine);
     let runs = 1 + pick(numbers, 3);
     for _ in 0..runs {
-        if let Some((order, way)) = draw_order(numbers) {
+        if let Some(order) = draw_order(numbers) {
+            let way = draw_way(numbers);
             cartridge = open_and_run(cartridge, order, way, numbers, &mut tally);
             tally.digest.add(cartridge.count() as u64);
         }
