@@ -140,7 +140,7 @@ pub fn show(rt: &LibcRuntime) -> Result<(), AnyError> {
     )?;
     println!(rt, "sent                       received")?;
     print_records(rt, &transmission)?;
-    let from = reads_right_from(&transmission, &file) + 1;
+    let from = reads_right_from(&transmission, &file).saturating_add(1);
     println!(
         rt,
         "the receiver reads right again from sent unit {from} on"
