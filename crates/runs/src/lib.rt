@@ -4,3 +4,4 @@ pub mod ends;
 mod frame;
 mod ring;
 pub mod run;
+pub mod whole;
