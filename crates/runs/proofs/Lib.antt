@@ -1,4 +1,14 @@
+pub mod Between
+pub mod Emptying
 pub mod RingPlaces
 pub mod Chains
 pub mod UnitsOut
-pub mod Between
+pub mod Slots
+pub mod Turns
+pub mod Cycles
+pub mod Onwards
+pub mod Outputs
+pub mod Inside
+pub mod Passes
+pub mod Wides
+pub mod Waits

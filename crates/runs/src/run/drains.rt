@@ -32,6 +32,6 @@ impl<E: Engine, W> Run<E, W> {
         if inside == 0 {
             return Ok(0);
         }
-        Ok(self.empty(out, 0))
+        Ok(self.empty(out))
     }
 }

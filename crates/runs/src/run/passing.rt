@@ -35,13 +35,13 @@ impl<E: Engine, W> Run<E, W> {
         put(out, given, unit)
     }
 
-    /// Empty cycles until all that was inside is out.
-    pub(crate) fn empty(&mut self, out: &mut [u64], given: usize) -> usize
-        requires { ⌜ given + length (items (now self .frame .pending)) ≤ length (now out) ⌝ }
-        ensures emptied { λ r. ⌜ Idles (E·Engine .machine (now (self .entry) .engine)) (E·Engine .machine (now (self .exit) .engine)) (now (self .entry) .frame) (now (self .exit) .frame) (E·Engine .machine (now (self .entry) .engine) .depth - 1) given r (now (out .entry)) (now (out .exit)) ⌝ }
-        ensures onward { λ r. ⌜ Onward (E·Engine .machine (now (self .entry) .engine)) (E·Engine .machine (now (self .exit) .engine)) (now (self .entry) .frame) (now (self .exit) .frame) given r 0 ⌝ }
+    /// Empty cycles until all that was inside is out, one fewer than the engine is deep.
+    pub(crate) fn empty(&mut self, out: &mut [u64]) -> usize
+        requires { ⌜ length (items (now self .frame .pending)) ≤ length (now out) ⌝ }
+        ensures emptied { λ r. ⌜ Idles (E·Engine .machine (now (self .entry) .engine)) (E·Engine .machine (now (self .exit) .engine)) (now (self .entry) .frame) (now (self .exit) .frame) (E·Engine .machine (now (self .entry) .engine) .depth - 1) 0 r (now (out .entry)) (now (out .exit)) ⌝ }
+        ensures onward { λ r. ⌜ Onward (E·Engine .machine (now (self .entry) .engine)) (E·Engine .machine (now (self .exit) .engine)) (now (self .entry) .frame) (now (self .exit) .frame) 0 r 0 ⌝ }
     {
-        let mut given = given;
+        let mut given = 0;
         for _ in 1..self.engine.depth_of() {
             given = self.pass(None, out, given);
         }
@@ -49,19 +49,19 @@ impl<E: Engine, W> Run<E, W> {
     }
 
     /// Empty cycles until the result at the next unit's distance is out, which takes fewer than the engine is deep.
-    pub(crate) fn wait(&mut self, out: &mut [u64], given: usize) -> usize
+    pub(crate) fn wait(&mut self, out: &mut [u64], mut given: usize) -> usize
         requires { ⌜ given + length (items (now self .frame .pending)) ≤ length (now out) ⌝ }
         ensures waited { λ r. ⌜ Waits (E·Engine .machine (now (self .entry) .engine)) (E·Engine .machine (now (self .exit) .engine)) (now (self .entry) .frame) (now (self .exit) .frame) given r (now (out .entry)) (now (out .exit)) ⌝ }
         ensures onward { λ r. ⌜ Onward (E·Engine .machine (now (self .entry) .engine)) (E·Engine .machine (now (self .exit) .engine)) (now (self .entry) .frame) (now (self .exit) .frame) given r 0 ⌝ }
     {
-        let mut given = given;
-        if let Some(distance) = self.frame.mode.distance(self.frame.way) {
-            for _ in 1..self.engine.depth_of() {
-                if self.frame.pending.len() < distance {
-                    break;
-                }
-                given = self.pass(None, out, given);
+        let Some(distance) = self.frame.mode.distance(self.frame.way) else {
+            return given;
+        };
+        for _ in 1..self.engine.depth_of() {
+            if self.frame.pending.len() < distance {
+                return given;
             }
+            given = self.pass(None, out, given);
         }
         given
     }
