@@ -5,32 +5,39 @@ use mathlib.Core.List.{List, [], _∷_, _++_, map}
 use mathlib.Core.Logic.{_⊎_, inl, inr, ⊎-elim}
 use Prim.Native.Nat.{ℕ, zero, suc, _+_, _-_, _*_, _/_, _<_, _≤_}
 use native.Mathlib.Omega.{arith}
-use native.Mathlib.Nat.{div-zero, mul-zero}
+use native.Mathlib.Nat.{add-zero, div-zero}
 use lib.Dec.{leb, ltb}
 use lib.ListN.{length, drop, take, replicate}
 use Rattle.std.proofs.shelf.Counted.{length-map-counting}
-use Rattle.std.proofs.shelf.Lists.{length-append, length-drop, nil-from-length}
-use Rattle.std.proofs.shelf.Tests.{leb-true, le-leb, cond-both, cond-true, cases-lt}
+use Rattle.std.proofs.shelf.Lists.{length-append, length-drop, nil-from-length, append-nil, append-assoc, drop-all, drop-drop, take-at, drop-at}
+use Rattle.std.proofs.shelf.Tests.{le-leb, ltb-false, le-ltb, cond-true, cond-false, cases-lt}
 use Rattle.std.specs.Iters.{counting}
 use Rattle.std.specs.declared.option.Option.{Option}
 use Rattle.std.specs.declared.option.Option.the-variants.{Some, None}
+use Rattle.std.specs.declared.result.Result.{Result}
+use Rattle.std.specs.declared.result.Result.the-variants.{Ok, Err}
+use Rattle.refusals.specs.declared.Refusal.{Refusal}
 use Rattle.engines.specs.Machines.{Machine}
 use Rattle.engines.specs.Cycles.{emptied}
 use Rattle.modes.specs.Schedule.{entry, leaving, cost, drained as drained-cost}
+use Rattle.modes.specs.Table.{row}
 use Rattle.modes.specs.Values.{listed}
+use Rattle.modes.specs.Results.{results}
 use Rattle.modes.proofs.Entries.{entry-flat}
 use Rattle.modes.proofs.Receiving.{length-results}
 use Rattle.calls.specs.Stretches.{passed, coming, inside}
-use Rattle.calls.specs.Calls.{Calls, gave, refused, fed, drained, order-of, way-of, taken, handed-out, stretch, count-before}
-use Rattle.calls.specs.Due.{distance-in, inside-in, results-in, cycles-passed, Follows}
+use Rattle.calls.specs.Calls.{Answer, Calls, gave, refused, fed, drained, order-of, way-of, taken, handed-out, stretch, count-before}
+use Rattle.calls.specs.Due.{distance-in, width-in, count-in, inside-in, cycles-passed, refusal-to-feed, refusal-to-drain, due-drain, Follows}
 use Rattle.calls.proofs.Stretching.{passed-is-cost, inside-most}
 use Rattle.calls.proofs.Accepted.{drain-gives}
 use Rattle.calls.proofs.OpenRun.{progress, balanced}
 use Rattle.runs.specs.declared.frame.Frame.{Frame}
 use Rattle.runs.specs.Rings.{items}
-use Rattle.runs.specs.Standing.{blocks}
+use Rattle.runs.specs.Standing.{blocks, Same-engine}
 use Rattle.runs.specs.Stands.{Stands}
+use Rattle.runs.specs.Handing.{Answered, Fed, Drained, refusal-in}
 use Rattle.runs.specs.Whole.{cycles-for}
+use Rattle.runs.specs.Emptying.{Emptied, Taken, Fed-empty}
 
 -- ---- an engine with nothing in it
 
@@ -51,15 +58,30 @@ entry-one-deep None j = refl
 entry-one-deep (Some zero) j = ap (λ x. j + x * (1 - 0)) (div-zero j) ∙ omega arith
 entry-one-deep (Some (suc d)) j = entry-flat 1 (suc d) j (omega arith)
 
-passed-one-deep : (δ : Option ℕ) (s : ℕ) → passed 1 δ s ≡ s
-passed-one-deep δ zero = refl
-passed-one-deep δ (suc s) = omega (arith, entry-one-deep δ s)
+passed-one-deep : (D : ℕ) (δ : Option ℕ) (s : ℕ) → D ≡ 1 → passed D δ s ≡ s
+passed-one-deep D δ zero e = refl
+passed-one-deep D δ (suc s) e = let one : entry D δ s ≡ s = ap (λ d. entry d δ s) e ∙ entry-one-deep δ s in omega arith
+
+-- units behind a stretch that left nothing inside cost what they cost as a stretch of their own
+passed-behind : (D : ℕ) (δ : Option ℕ) (s n : ℕ) → 1 ≤ D → inside D δ s ≡ 0 → passed D δ (s + n) - passed D δ s ≡ passed D δ n
+passed-behind D δ s n deep quiet =
+    ⊎-elim
+    (λ e. let k : s + n ≡ n = omega arith in
+    let p : passed D δ (s + n) ≡ passed D δ n = ap (passed D δ) k in
+    let q : passed D δ s ≡ 0 = ap (passed D δ) e in
+    omega arith)
+    (λ l. let e : D ≡ 1 = omega arith in
+    omega (arith, passed-one-deep D δ (s + n) e, passed-one-deep D δ s e, passed-one-deep D δ n e))
+    (nothing-inside D δ s quiet)
 
 -- no blocks: every place is empty
 no-blocks : (places : List (Option ℕ)) → blocks places ≡ 0 → places ≡ replicate (length places) None
 no-blocks [] e = refl
 no-blocks (None ∷ places) e = ap (λ xs. None ∷ xs) (no-blocks places e)
 no-blocks (Some b ∷ places) e = absurd (omega arith)
+
+pub same-then : (mach mach′ mach″ : Machine) → Same-engine mach mach′ → Same-engine mach′ mach″ → Same-engine mach mach″
+same-then mach mach′ mach″ p q = (q .0 ∙ p .0, q .1 ∙ p .1, q .2 ∙ p .2)
 
 -- ---- a run that stands for calls
 
@@ -73,7 +95,24 @@ module _ (mach : Machine) (f : Frame) (calls : Calls true) (stands : Stands mach
   pub taken-told : f .taken ≡ length (taken calls)
   taken-told = omega (arith, stands .at-work .standing .taken, progress _ _ _ calls (stands .follows) .whole)
 
-  -- with nothing inside its engine rests
+  -- what a feed is refused, by what the run remembers
+  pub feed-refusal : (us : List ℕ) (room : ℕ) (otherwise : Answer)
+      → refusal-to-feed (length (items (f .pending))) (row (f .mode) .width) (f .before + f .taken) us room otherwise
+        ≡ refusal-to-feed (inside-in (mach .depth) calls) (width-in calls) (count-in calls) us room otherwise
+  feed-refusal us room otherwise =
+      ap (λ n. refusal-to-feed n (row (f .mode) .width) (f .before + f .taken) us room otherwise) pending-inside
+      ∙ ap (λ m. refusal-to-feed (inside-in (mach .depth) calls) (row m .width) (f .before + f .taken) us room otherwise) (stands .at-work .mode)
+      ∙ ap (λ n. refusal-to-feed (inside-in (mach .depth) calls) (width-in calls) n us room otherwise) (omega (arith, stands .at-work .before, taken-told))
+
+  -- with nothing inside all results are out
+  pub all-out : inside-in (mach .depth) calls ≡ 0
+      → handed-out calls ≡ results (mach .forward) (mach .inverse) (order-of calls .mode) (way-of calls) (listed (order-of calls .values)) (taken calls) (length (taken calls))
+  all-out quiet =
+      let all : length (taken calls) - inside-in (mach .depth) calls ≡ length (taken calls) = omega arith in
+      progress _ _ _ calls (stands .follows) .front
+      ∙ ap (results (mach .forward) (mach .inverse) (order-of calls .mode) (way-of calls) (listed (order-of calls .values)) (taken calls)) all
+
+  -- and its engine rests
   pub engine-rests : inside-in (mach .depth) calls ≡ 0 → mach ≡ emptied mach
   engine-rests quiet =
       let line = stands .at-work .standing .line in
@@ -81,6 +120,27 @@ module _ (mach : Machine) (f : Frame) (calls : Calls true) (stands : Stands mach
       let row : mach .row ≡ replicate (mach .depth - 1) None =
       no-blocks (mach .row) (stands .at-work .standing .full ∙ omega (arith, in-stretch)) ∙ ap (λ n. replicate n None) size in
       λ i. record { forward = mach .forward; inverse = mach .inverse; depth = mach .depth; row = row i }
+
+-- ---- answers
+
+-- an answer that tells a number gave so many units, and one that tells a refusal refused so
+pub gave-by : (xs ys : List ℕ) (n : ℕ) (a : Answer) → Answered xs ys (Ok n) a
+    → (hs : List ℕ) × (a ≡ gave hs) × (n ≡ length hs) × (ys ≡ hs ++ drop (length hs) xs)
+gave-by xs ys n (gave hs) p = (hs, refl, p .0, p .1)
+gave-by xs ys n (refused e) p = absurd p
+
+pub refused-by : (xs ys : List ℕ) (e : Refusal) (a : Answer) → Answered xs ys (Err e) a → (a ≡ refused e) × (ys ≡ xs)
+refused-by xs ys e (gave hs) p = absurd p
+refused-by xs ys e (refused e′) p = (ap refused (sym (p .0)), p .1)
+
+-- a feed that was not refused had room
+fed-room : (in-engine width count : ℕ) (us : List ℕ) (room : ℕ) (hs due : List ℕ)
+    → gave hs ≡ refusal-to-feed in-engine width count us room (gave due) → in-engine + length us ≤ room
+fed-room in-engine width count us room hs due e = ltb-false _ _ (passes (ltb room (in-engine + length us)) _ _ e)
+  where
+    passes : (small : Bool) (a : Refusal) (otherwise : Answer) → gave hs ≡ cond small (refused a) otherwise → small ≡ false
+    passes true a otherwise e = let z : _≡_ {A = ℕ} 0 1 = cc in absurd (omega arith)
+    passes false a otherwise e = refl
 
 -- ---- units that were fed and drained
 
@@ -106,3 +166,106 @@ module _ (F G : ℕ → ℕ) (D : ℕ) (calls : Calls true) (us : List ℕ) (roo
       → inside-in D (drained room′ (gave ks) (fed us room (gave hs) calls)) ≡ 0
   drained-empty [] f = sym (drained-count [] f)
   drained-empty (k ∷ ks) f = refl
+
+module _ (F G : ℕ → ℕ) (D : ℕ) (deep : 1 ≤ D) (calls : Calls true) (quiet : inside-in D calls ≡ 0) (room room′ : ℕ) (hs : List ℕ) where
+  -- where nothing was inside, the cycles are those of the schedule
+  pub cycles-of-feed : (us ks : List ℕ) → Follows F G D (drained room′ (gave ks) (fed us room (gave hs) calls))
+      → cycles-passed D (drained room′ (gave ks) (fed us room (gave hs) calls)) ≡ cycles-passed D calls + cycles-for D (distance-in calls) us
+  cycles-of-feed [] [] f = omega (arith, passed-behind D (distance-in calls) (stretch calls) 0 deep quiet)
+  cycles-of-feed [] (k ∷ ks) f =
+      let none : inside D (distance-in calls) (stretch calls + 0) ≡ 0 =
+      ap (inside D (distance-in calls)) (add-zero (stretch calls)) ∙ quiet in
+      absurd (omega (arith, drained-count F G D calls [] room room′ hs (k ∷ ks) f))
+  cycles-of-feed (u ∷ us) [] f =
+      let n = length (u ∷ us) in
+      let flat : D ≤ 1 =
+      ⊎-elim (λ e. absurd (omega arith)) (λ l. l)
+      (nothing-inside D (distance-in calls) (stretch calls + n) (sym (drained-count F G D calls (u ∷ us) room room′ hs [] f))) in
+      omega (arith, passed-behind D (distance-in calls) (stretch calls) n deep quiet, passed-is-cost D (distance-in calls) n)
+  cycles-of-feed (u ∷ us) (k ∷ ks) f =
+      let n = length (u ∷ us) in
+      omega (arith, passed-behind D (distance-in calls) (stretch calls) n deep quiet, passed-is-cost D (distance-in calls) n)
+
+-- ---- a feed and a drain, by their contracts
+
+-- what is written behind what stands first
+pub written-behind : (xs ys ws zs hs ks : List ℕ) (given : ℕ) → given ≡ length hs → ys ≡ hs ++ drop (length hs) xs → ws ≡ drop given ys
+    → zs ≡ ks ++ drop (length ks) ws
+    → take given ys ++ (zs ++ drop (length ys - given) (drop given ys)) ≡ (hs ++ ks) ++ drop (length (hs ++ ks)) xs
+written-behind xs ys ws zs hs ks given count output rest more =
+    let front : take given ys ≡ hs = ap (take given) output ∙ take-at hs (drop (length hs) xs) given (sym count) in
+    let left : ws ≡ drop (length hs) xs = rest ∙ ap (drop given) output ∙ drop-at hs (drop (length hs) xs) given (sym count) in
+    let over : drop (length ks) ws ≡ drop (length (hs ++ ks)) xs =
+    ap (drop (length ks)) left ∙ drop-drop (length ks) (length hs) xs ∙ ap (λ n. drop n xs) (sym (length-append hs ks)) in
+    ap (λ l. take given ys ++ (zs ++ l)) (drop-all (length ys - given) (drop given ys) (omega (arith, length-drop given ys)))
+    ∙ ap (λ l. take given ys ++ l) (append-nil zs ∙ more ∙ ap (λ l. ks ++ l) over)
+    ∙ ap (λ l. l ++ (ks ++ drop (length (hs ++ ks)) xs)) front
+    ∙ sym (append-assoc hs ks (drop (length (hs ++ ks)) xs))
+
+module _ (mach1 mach2 : Machine) (f1 f2 : Frame) (calls : Calls true) (us xs ys ws zs hs : List ℕ) (given : ℕ) (count : given ≡ length hs)
+    (output : ys ≡ hs ++ drop (length hs) xs) (rest : ws ≡ drop given ys) (within : given ≤ length xs)
+    (stands : Stands mach1 f1 (fed us (length xs) (gave hs) calls)) where
+  rest-is : ws ≡ drop (length hs) xs
+  rest-is = rest ∙ ap (drop given) output ∙ drop-at hs (drop (length hs) xs) given (sym count)
+
+  room-left : length ws ≡ length xs - length hs
+  room-left = ap length rest-is ∙ length-drop (length hs) xs
+
+  -- the drain has room
+  pub drain-fits : (e : Refusal) → Drained mach1 mach2 f1 f2 ws zs (Err e) → ⊥
+  drain-fits e answers =
+      let f = stands .follows in
+      let fits : inside-in (mach1 .depth) (fed us (length xs) (gave hs) calls) ≤ length ws =
+      omega (arith, room-left, fed-count _ _ _ calls us (length xs) 0 hs f, fed-room _ _ _ us (length xs) hs _ (f .0)) in
+      subst (Answered ws zs (Err e)) (cond-false _ _ _ (le-ltb _ _ fits)) (answers (fed us (length xs) (gave hs) calls) stands .0)
+
+  pub emptied-by : (n : ℕ) → Drained mach1 mach2 f1 f2 ws zs (Ok n)
+      → Emptied mach2 f2 calls us xs (take given ys ++ (zs ++ drop (length ys - given) (drop given ys))) (given + n)
+  emptied-by n answers =
+      let a = answers (fed us (length xs) (gave hs) calls) stands in
+      let p = gave-by ws zs n _ (a .0) in
+      let ks = p .0 in
+      record {
+        hs = hs;
+        ks = ks;
+        count = omega (arith, p .2, length-append hs ks);
+        output = written-behind xs ys ws zs hs ks given count output rest (p .3);
+        stands =
+            subst (λ room. Stands mach2 f2 (drained room (gave ks) (fed us (length xs) (gave hs) calls))) room-left
+            (subst (λ b. Stands mach2 f2 (drained (length ws) b (fed us (length xs) (gave hs) calls))) (p .1) (a .1));
+      }
+
+module _ (mach mach1 : Machine) (f f1 : Frame) (us xs ys : List ℕ) where
+  -- the feed was refused
+  pub refused-at-once : (e : Refusal) → Fed mach mach1 f f1 us xs ys (Err e)
+      → refused e ≡ refusal-to-feed (length (items (f .pending))) (row (f .mode) .width) (f .before + f .taken) us (length xs) (gave [])
+      → Fed-empty mach mach1 f f1 us xs ys (Err e)
+  refused-at-once e answers refusal calls stands =
+      let a = answers calls stands in
+      let p = refused-by xs ys e _ (a .0) in
+      record {
+        refusal = refusal ∙ feed-refusal mach f calls stands us (length xs) (gave []);
+        went = (p .1, subst (λ b. Stands mach1 f1 (fed us (length xs) b calls)) (p .0) (a .1));
+      }
+
+  module _ (mach2 : Machine) (f2 : Frame) (ws zs : List ℕ) (given : ℕ) (rest : ws ≡ drop given ys) (within : given ≤ length xs)
+      (answers : Fed mach mach1 f f1 us xs ys (Ok given)) where
+    pub never-refused : (e : Refusal) (r : Result ℕ Refusal) (out : List ℕ) → Drained mach1 mach2 f1 f2 ws zs (Err e) → Fed-empty mach mach2 f f2 us xs out r
+    never-refused e r out drains calls stands =
+        let a = answers calls stands in
+        let p = gave-by xs ys given _ (a .0) in
+        absurd (drain-fits mach1 mach2 f1 f2 calls us xs ys ws zs (p .0) given (p .2) (p .3) rest within
+        (subst (λ b. Stands mach1 f1 (fed us (length xs) b calls)) (p .1) (a .1)) e drains)
+
+    pub fed-and-drained : (n : ℕ)
+        → gave [] ≡ refusal-to-feed (length (items (f .pending))) (row (f .mode) .width) (f .before + f .taken) us (length xs) (gave [])
+        → Drained mach1 mach2 f1 f2 ws zs (Ok n)
+        → Fed-empty mach mach2 f f2 us xs (take given ys ++ (zs ++ drop (length ys - given) (drop given ys))) (Ok (given + n))
+    fed-and-drained n refusal drains calls stands =
+        let a = answers calls stands in
+        let p = gave-by xs ys given _ (a .0) in
+        record {
+          refusal = refusal ∙ feed-refusal mach f calls stands us (length xs) (gave []);
+          went = emptied-by mach1 mach2 f1 f2 calls us xs ys ws zs (p .0) given (p .2) (p .3) rest within
+              (subst (λ b. Stands mach1 f1 (fed us (length xs) b calls)) (p .1) (a .1)) n drains;
+        }

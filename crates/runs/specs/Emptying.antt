@@ -35,10 +35,9 @@ pub record Taken (mach mach′ : Machine) (f′ : Frame) (calls : Calls true) (u
   pub refusal : refusal-in r ≡ refusal-to-feed (inside-in (mach .depth) calls) (width-in calls) (count-in calls) us (length xs) (gave [])
   pub went : Went mach′ f′ calls us xs ys r
 
+-- whatever calls went before
 abbrev pub Fed-empty : (mach mach′ : Machine) (f f′ : Frame) (us xs ys : List ℕ) → Result ℕ Refusal → Type 0
-Fed-empty mach mach′ f f′ us xs ys r =
-    (mach′ .forward ≡ mach .forward) × (mach′ .inverse ≡ mach .inverse) × (mach′ .depth ≡ mach .depth)
-    × ((calls : Calls true) → Stands mach f calls → Taken mach mach′ f′ calls us xs ys r)
+Fed-empty mach mach′ f f′ us xs ys r = (calls : Calls true) → Stands mach f calls → Taken mach mach′ f′ calls us xs ys r
 
 -- the same twice, from the start of a new cartridge's run on
 abbrev pub Fed-twice : (mach mach′ : Machine) (f f′ : Frame) (first second xs ys : List ℕ) → Result ℕ Refusal → Type 0

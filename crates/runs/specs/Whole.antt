@@ -42,15 +42,15 @@ module _ (mach : Machine) (order : Order) (way : Way) where
   refusal-behind us vs xs = refusal-to-feed 0 (row (order .mode) .width) (length us) vs (length xs - length us) (gave [])
 
   -- a refusal ends the run
+  abbrev pub behind-second : (first second xs : List ℕ) → Answer → Ending
+  behind-second first second xs (refused e) = ending first xs (Err e)
+  behind-second first second xs (gave hs) =
+      ending (first ++ second) xs
+      (Ok (cycles-for (mach .depth) (distanceOf (order .mode) way) first + cycles-for (mach .depth) (distanceOf (order .mode) way) second))
+
+  abbrev pub behind-first : (first second xs : List ℕ) → Answer → Ending
+  behind-first first second xs (refused e) = ending [] xs (Err e)
+  behind-first first second xs (gave hs) = behind-second first second xs (refusal-behind first second xs)
+
   abbrev pub in-two : (first second xs : List ℕ) → Ending
-  in-two first second xs =
-      elim (refusal-behind [] first xs) [
-        | refused e ↦ ending [] xs (Err e)
-        | gave _ ↦
-            elim (refusal-behind first second xs) [
-              | refused e ↦ ending first xs (Err e)
-              | gave _ ↦
-                  ending (first ++ second) xs
-                  (Ok (cycles-for (mach .depth) (distanceOf (order .mode) way) first + cycles-for (mach .depth) (distanceOf (order .mode) way) second))
-            ]
-      ]
+  in-two first second xs = behind-first first second xs (refusal-behind [] first xs)

@@ -6,6 +6,7 @@ ghost use lib.ListN.{length};
 ghost use Rattle.std.specs.Vec.{made};
 ghost use Rattle.engines.specs.Cycles.{emptied};
 ghost use Rattle.modes.specs.declared.way.Way.the-variants.{Enciphering, Deciphering};
+ghost use Rattle.runs.specs.Standing.{Same-engine};
 ghost use Rattle.runs.specs.Whole.{in-two};
 ghost use Rattle.runs.specs.Emptying.{Fed-empty, Fed-twice};
 use super::cartridge::Cartridge;
@@ -18,6 +19,7 @@ use refusals::Refusal;
 fn feed_and_drain<E: Engine, W>(run: &mut Run<E, W>, units: &[u64], out: &mut [u64]) -> Result<usize, Refusal>
     ensures emptied { λ r. ⌜ Fed-empty (E·Engine .machine (now (run .entry) .engine)) (E·Engine .machine (now (run .exit) .engine)) (now (run .entry) .frame) (now (run .exit) .frame) (now (units .entry)) (now (out .entry)) (now (out .exit)) r ⌝ }
     ensures within { λ r. ⌜ made r (λ n. n ≤ length (now (out .entry))) ⌝ }
+    ensures same { λ _. ⌜ Same-engine (E·Engine .machine (now (run .entry) .engine)) (E·Engine .machine (now (run .exit) .engine)) ⌝ }
 {
     let given = run.feed(units, out)?;
     let drained = run.drain(&mut out[given..])?;
