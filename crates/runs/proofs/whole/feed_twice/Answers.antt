@@ -1,5 +1,5 @@
 use borrow.Author.Needs.{needs}
-use Rattle.runs.proofs.TwoFeeds.{ended}
+use Rattle.runs.proofs.TwoFeeds.{first-refused}
 use Rattle.runs.proofs.whole.feed_twice.Needs as need
 
 pub returns-in-Break-given : need.returns-in-Break-given
