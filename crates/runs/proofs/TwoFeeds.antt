@@ -50,7 +50,7 @@ first-behind mach first xs order way a e =
     e ∙ ap (λ n. refusal-to-feed 0 (row (order .mode) .width) 0 first n (gave [])) all
 
 pub first-refused : (mach mach1 : Machine) (f f1 : Frame) (first second xs ys : List ℕ) (e : Refusal) → Same-engine mach mach1
-    → Fed-empty mach mach1 f f1 first xs ys (Err e) → Fed-twice mach mach1 f f1 first second xs ys (Err e)
+    → Fed-empty mach mach1 f f1 first xs ys (Err e) → Fed-twice mach mach1 f (f1 .before + f1 .taken) first second xs ys (Err e)
 first-refused mach mach1 f f1 first second xs ys e same answers order way stands =
     let t = answers (started order way new) stands in
     let w = t .went in
@@ -84,7 +84,7 @@ module _ (mach mach1 mach2 : Machine) (f f1 f2 : Frame) (first second xs ys ws z
       ∙ ap (λ n. refusal-to-feed 0 (row (order .mode) .width) (length first) second n (gave [])) room
 
   pub second-refused : (e : Refusal) → Fed-empty mach1 mach2 f1 f2 second ws zs (Err e)
-      → Fed-twice mach mach2 f f2 first second xs (take given ys ++ (zs ++ drop (length ys - given) (drop given ys))) (Err e)
+      → Fed-twice mach mach2 f (f2 .before + f2 .taken) first second xs (take given ys ++ (zs ++ drop (length ys - given) (drop given ys))) (Err e)
   second-refused e answers′ order way stands =
       let t = answers (started order way new) stands in
       let one = t .went in
@@ -102,7 +102,7 @@ module _ (mach mach1 mach2 : Machine) (f f1 f2 : Frame) (first second xs ys ws z
 
   pub fed-twice : (n cycles : ℕ) → Fed-empty mach1 mach2 f1 f2 second ws zs (Ok n)
       → ((calls : Calls true) → Stands mach2 f2 calls → cycles ≡ cycles-passed (mach2 .depth) calls)
-      → Fed-twice mach mach2 f f2 first second xs (take given ys ++ (zs ++ drop (length ys - given) (drop given ys))) (Ok cycles)
+      → Fed-twice mach mach2 f (f2 .before + f2 .taken) first second xs (take given ys ++ (zs ++ drop (length ys - given) (drop given ys))) (Ok cycles)
   fed-twice n cycles answers′ tells order way stands =
       let t = answers (started order way new) stands in
       let one = t .went in
@@ -129,3 +129,18 @@ module _ (mach mach1 mach2 : Machine) (f f1 f2 : Frame) (first second xs ys ws z
       ∙ ap (λ k. ending mach order way (first ++ second) xs (Ok k)) due
       ∙ ap (behind-second mach order way first second xs) (second-behind order way (one .hs) (one .ks) (gave []) (one .count) (one .stands) (t′ .refusal))
       ∙ ap (behind-first mach order way first second xs) (first-behind mach first xs order way (gave []) (t .refusal)), p .1)
+
+-- closing hands on the engine and the count
+pub closed-then : (mach mach2 mach3 : Machine) (f : Frame) (n count : ℕ) (first second xs ys : List ℕ) (r : Result ℕ Refusal) → mach3 ≡ mach2 → count ≡ n
+    → Fed-twice mach mach2 f n first second xs ys r → Fed-twice mach mach3 f count first second xs ys r
+closed-then mach mach2 mach3 f n count first second xs ys r engine same twice order way stands =
+    let p = twice order way stands in
+    (ap (λ k. record { answer = r; count = k; output = ys }) same ∙ p .0, engine ∙ p .1)
+
+-- that the start empties the engine alters nothing of it
+pub from-new : (mach mach1 mach2 : Machine) (f : Frame) (order : Order) (way : Way) (count : ℕ) (first second xs ys : List ℕ) (r : Result ℕ Refusal)
+    → mach1 ≡ emptied mach → Stands mach1 f (started order way new) → Fed-twice mach1 mach2 f count first second xs ys r
+    → (record { answer = r; count = count; output = ys } ≡ in-two mach order way first second xs) × (mach2 ≡ emptied mach)
+from-new mach mach1 mach2 f order way count first second xs ys r empty stands twice =
+    let p = twice order way stands in
+    (p .0 ∙ ap (λ m. in-two m order way first second xs) empty, p .1 ∙ ap emptied empty)

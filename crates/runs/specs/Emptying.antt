@@ -39,8 +39,8 @@ pub record Taken (mach mach′ : Machine) (f′ : Frame) (calls : Calls true) (u
 abbrev pub Fed-empty : (mach mach′ : Machine) (f f′ : Frame) (us xs ys : List ℕ) → Result ℕ Refusal → Type 0
 Fed-empty mach mach′ f f′ us xs ys r = (calls : Calls true) → Stands mach f calls → Taken mach mach′ f′ calls us xs ys r
 
--- the same twice, from the start of a new cartridge's run on
-abbrev pub Fed-twice : (mach mach′ : Machine) (f f′ : Frame) (first second xs ys : List ℕ) → Result ℕ Refusal → Type 0
-Fed-twice mach mach′ f f′ first second xs ys r =
+-- the same twice, from the start of a new cartridge's run on; count is what the cartridge tells then
+abbrev pub Fed-twice : (mach mach′ : Machine) → Frame → (count : ℕ) (first second xs ys : List ℕ) → Result ℕ Refusal → Type 0
+Fed-twice mach mach′ f count first second xs ys r =
     (order : Order) (way : Way) → Stands mach f (started order way new)
-    → (record { answer = r; count = f′ .before + f′ .taken; output = ys } ≡ in-two mach order way first second xs) × (mach′ ≡ emptied mach)
+    → (record { answer = r; count = count; output = ys } ≡ in-two mach order way first second xs) × (mach′ ≡ emptied mach)
