@@ -28,22 +28,24 @@ module _ (mach : Machine) (m : Mode) (way : Way) (ivs us : List ℕ) (ok : Sound
   released base s h t past places v v′ answer r jn ea rel =
       let mach′ = moved-on mach places in
       let still : (h < s → leaving (mach .depth) (distanceOf m way) h ≡ t → ⊥) → Outcome mach′ m way ivs us base s h t past v′ r = λ not-due.
-          let none : Released m way (counted v) v′ None r =
-              subst (λ a. Released m way (counted v) v′ a r) (ea ∙ front-empty mach m way ivs us ok base s h t past places v jn not-due) rel in
-          subst (λ x. Outcome mach′ m way ivs us base s h t past v′ x) (sym (none .0))
-          (subst (λ x. Standing mach′ m way ivs us base s h (t + 1) past x) (sym (none .1)) (still-standing mach m way ivs us ok base s h t past places v jn not-due)) in
+      let none : Released m way (counted v) v′ None r =
+      subst (λ a. Released m way (counted v) v′ a r) (ea ∙ front-empty mach m way ivs us ok base s h t past places v jn not-due) rel in
+      subst (λ x. Outcome mach′ m way ivs us base s h t past v′ x) (sym (none .0))
+      (subst (λ x. Standing mach′ m way ivs us base s h (t + 1) past x) (sym (none .1)) (still-standing mach m way ivs us ok base s h t past places v jn not-due)) in
       let out : h < s → leaving (mach .depth) (distanceOf m way) h ≡ t → Outcome mach′ m way ivs us base s h t past v′ r = λ some now.
-          let y = result-at (mach .forward) (mach .inverse) m way ivs us (base + h) in
-          let go : Released m way (counted v) v′ (Some y) r =
-              subst (λ a. Released m way (counted v) v′ a r) (ea ∙ front-full mach m way ivs us ok base s h t past places v jn some now) rel in
-          let within = jn .within in
-          let size = inside-size mach m way ivs us ok base s h t past places v jn in
-          let long = ap length (jn .links) ∙ chain-size mach m way ivs us ok (distanceOf m way) (base + s) (base + h) within (omega arith) in
-          let few = values-within m in
-          let left = go (omega arith) (omega arith) in
-          subst (λ x. Outcome mach′ m way ivs us base s h t past v′ x) (sym (left .0))
-          (some, unit-is mach m way ivs us ok base s h t past places v jn some now,
-           subst (λ x. Standing mach′ m way ivs us base s (h + 1) (t + 1) past x) (sym (left .1)) (standing-left mach m way ivs us ok base s h t past places v jn some now)) in
+      let y = result-at (mach .forward) (mach .inverse) m way ivs us (base + h) in
+      let go : Released m way (counted v) v′ (Some y) r =
+      subst (λ a. Released m way (counted v) v′ a r) (ea ∙ front-full mach m way ivs us ok base s h t past places v jn some now) rel in
+      let within = jn .within in
+      let size = inside-size mach m way ivs us ok base s h t past places v jn in
+      let long = ap length (jn .links) ∙ chain-size mach m way ivs us ok (distanceOf m way) (base + s) (base + h) within (omega arith) in
+      let few = values-within m in
+      let left = go (omega arith) (omega arith) in
+      subst (λ x. Outcome mach′ m way ivs us base s h t past v′ x) (sym (left .0)) (
+        some,
+        unit-is mach m way ivs us ok base s h t past places v jn some now,
+        subst (λ x. Standing mach′ m way ivs us base s (h + 1) (t + 1) past x) (sym (left .1)) (standing-left mach m way ivs us ok base s h t past places v jn some now),
+      ) in
       ⊎-elim
       (λ l. ⊎-elim (out l) (λ ne. still (λ _. ne)) (cases-eq (leaving (mach .depth) (distanceOf m way) h) t))
       (λ l. still (λ q. absurd (omega arith)))
@@ -58,8 +60,8 @@ pub cycled : (mach mach′ : Machine) (m m′ : Mode) (way way′ : Way) (v v1 v
     → v2 ≡ counted v1 → Released m′ way′ v2 v3 answer r → Cycled mach mach′ m way v v3 unit r
 cycled mach mach′ m m′ way way′ v v1 v2 v3 None work answer r em ew adm ea er ev rel = λ ivs us base s h t past ok st.
     let rel1 : Released m way (counted v) v3 answer r =
-        subst (λ x. Released m way x v3 answer r) (ev ∙ ap counted (adm .1))
-        (subst (λ x. Released m x v2 v3 answer r) ew (subst (λ x. Released x way′ v2 v3 answer r) em rel)) in
+    subst (λ x. Released m way x v3 answer r) (ev ∙ ap counted (adm .1))
+    (subst (λ x. Released m x v2 v3 answer r) ew (subst (λ x. Released x way′ v2 v3 answer r) em rel)) in
     subst (λ x. Outcome x m way ivs us base s h t past v3 r) (sym (er ∙ ap (turned mach) (adm .0)))
     (released mach m way ivs us ok base s h t past (mach .row ++ None ∷ []) v v3 answer r (joined-idle mach m way ivs us ok base s h t past v st) (ea ∙ ap (answered mach) (adm .0)) rel1)
 cycled mach mach′ m m′ way way′ v v1 v2 v3 (Some u) work answer r em ew adm ea er ev rel = λ ivs us base s h t past ok st en.
@@ -73,10 +75,10 @@ cycled mach mach′ m m′ way way′ v v1 v2 v3 (Some u) work answer r em ew ad
     let a = adm (omega arith) (omega arith) in
     let y = result-at (mach .forward) (mach .inverse) m way ivs us (base + s) in
     let joins : result (directed (mach .forward) (mach .inverse)) work ≡ Some y =
-        ap (result (directed (mach .forward) (mach .inverse))) (a .0) ∙ ap Some (result-is mach m way ivs us ok base s h t past v st u en) in
+    ap (result (directed (mach .forward) (mach .inverse))) (a .0) ∙ ap Some (result-is mach m way ivs us ok base s h t past v st u en) in
     let rel1 : Released m way (counted (entered m way v u)) v3 answer r =
-        subst (λ x. Released m way x v3 answer r) (ev ∙ ap counted (a .1))
-        (subst (λ x. Released m x v2 v3 answer r) ew (subst (λ x. Released x way′ v2 v3 answer r) em rel)) in
+    subst (λ x. Released m way x v3 answer r) (ev ∙ ap counted (a .1))
+    (subst (λ x. Released m x v2 v3 answer r) ew (subst (λ x. Released x way′ v2 v3 answer r) em rel)) in
     subst (λ x. Outcome x m way ivs us base (s + 1) h t past v3 r) (sym (er ∙ ap (λ x. moved-on mach (mach .row ++ x ∷ [])) joins))
     (released mach m way ivs us ok base (s + 1) h t past (mach .row ++ Some y ∷ []) (entered m way v u) v3 answer r
-     (joined-unit mach m way ivs us ok base s h t past v st u en) (ea ∙ ap (λ x. getD (mach .row ++ x ∷ []) 0 None) joins) rel1)
+    (joined-unit mach m way ivs us ok base s h t past v st u en) (ea ∙ ap (λ x. getD (mach .row ++ x ∷ []) 0 None) joins) rel1)

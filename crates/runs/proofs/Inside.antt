@@ -40,11 +40,11 @@ coming-is D δ t zero h l gone here = omega arith
 coming-is D δ t (suc s) h l gone here =
     ⊎-elim
     (λ q. let ih = coming-is D δ t s h (omega arith) gone (λ j a b. here j a (omega arith)) in
-          let c : cond {A = ℕ} (leb t (leaving D δ s)) 1 0 ≡ 1 = cond-true {A = ℕ} (leb t (leaving D δ s)) 1 0 (le-leb t (leaving D δ s) (here s (omega arith) (omega arith))) in
-          omega (arith, ih, c))
+    let c : cond {A = ℕ} (leb t (leaving D δ s)) 1 0 ≡ 1 = cond-true {A = ℕ} (leb t (leaving D δ s)) 1 0 (le-leb t (leaving D δ s) (here s (omega arith) (omega arith))) in
+    omega (arith, ih, c))
     (λ q. let ih = coming-is D δ t s s (omega arith) (λ j a. gone j (omega arith)) (λ j a b. absurd (omega arith)) in
-          let c : cond {A = ℕ} (leb t (leaving D δ s)) 1 0 ≡ 0 = cond-false {A = ℕ} (leb t (leaving D δ s)) 1 0 (lt-leb t (leaving D δ s) (gone s (omega arith))) in
-          omega (arith, ih, c))
+    let c : cond {A = ℕ} (leb t (leaving D δ s)) 1 0 ≡ 0 = cond-false {A = ℕ} (leb t (leaving D δ s)) 1 0 (lt-leb t (leaving D δ s) (gone s (omega arith))) in
+    omega (arith, ih, c))
     (cases-lt h (suc s))
 
 module _ (mach : Machine) (m : Mode) (way : Way) (ivs us : List ℕ) (base s h t past : ℕ) (v : View) (st : Standing mach m way ivs us base s h t past v) where

@@ -13,3 +13,9 @@ pub mod Inside
 pub mod Passes
 pub mod Wides
 pub mod Waits
+pub mod MoreUnits
+pub mod Pumps
+pub mod Numbers
+pub mod FeedReplies
+pub mod DrainReplies
+pub mod Starts

@@ -41,4 +41,4 @@ units-are-results F G m way ivs us a n b len e =
     let lr = length-results F G m way ivs us b in
     ext-getD 0 (map y (counting a n)) (drop a rs) (ln ∙ sym (length-drop a rs ∙ omega arith))
     (λ i l. getD-map-counting y a n i (a + i) 0 (omega arith) refl
-            ∙ sym (getD-drop a rs i 0 ∙ result-is-unit F G m way ivs us b (a + i) len (omega arith)))
+    ∙ sym (getD-drop a rs i 0 ∙ result-is-unit F G m way ivs us b (a + i) len (omega arith)))

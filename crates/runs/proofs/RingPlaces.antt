@@ -31,9 +31,9 @@ module _ (xs : List ℕ) (n o k : ℕ) (size : length xs ≡ n) (lo : o < n) (lk
       let b = length-drop o xs in
       getD-take k (drop o xs ++ xs) i 0 l
       ∙ ⊎-elim
-        (λ p. getD-append-left (drop o xs) xs 0 i (omega arith) ∙ getD-drop o xs i 0 ∙ ap (λ j. getD xs j 0) (sym (p .1)))
-        (λ p. getD-append-right (drop o xs) xs (n - o) i 0 (omega arith) (omega arith) ∙ ap (λ j. getD xs j 0) (omega (arith, p .1)))
-        (place-round n (o + i) (omega arith))
+      (λ p. getD-append-left (drop o xs) xs 0 i (omega arith) ∙ getD-drop o xs i 0 ∙ ap (λ j. getD xs j 0) (sym (p .1)))
+      (λ p. getD-append-right (drop o xs) xs (n - o) i 0 (omega arith) (omega arith) ∙ ap (λ j. getD xs j 0) (omega (arith, p .1)))
+      (place-round n (o + i) (omega arith))
 
   pub item-past : (i : ℕ) → k ≤ i → 0 ≡ getD (take k (drop o xs ++ xs)) i 0
   item-past i l = let len = length-items in sym (getD-past (take k (drop o xs ++ xs)) i 0 (omega arith))
@@ -60,12 +60,12 @@ popped-items xs n o k size lo lk l =
     let cut = length-drop 1 (take k (drop o xs ++ xs)) in
     ext-getD 0 (take (k - 1) (drop o′ xs ++ xs)) (drop 1 (take k (drop o xs ++ xs))) (omega arith)
     (λ i li. item-at xs n o′ (k - 1) size lo′ lk′ i (omega arith)
-             ∙ ap (λ j. getD xs j 0) (mod-add-mod (o + 1) n i ∙ ap (λ j. j % n) (omega arith))
-             ∙ sym (getD-drop 1 (take k (drop o xs ++ xs)) i 0 ∙ item-at xs n o k size lo lk (1 + i) (omega arith)))
+    ∙ ap (λ j. getD xs j 0) (mod-add-mod (o + 1) n i ∙ ap (λ j. j % n) (omega arith))
+    ∙ sym (getD-drop 1 (take k (drop o xs ++ xs)) i 0 ∙ item-at xs n o k size lo lk (1 + i) (omega arith)))
 
 -- a number comes in behind the newest
 pub pushed-items : (xs : List ℕ) (n o k x : ℕ) → length xs ≡ n → o < n → k < n
-   → take (k + 1) (drop o (set xs ((o + k) % n) x) ++ set xs ((o + k) % n) x) ≡ take k (drop o xs ++ xs) ++ x ∷ []
+    → take (k + 1) (drop o (set xs ((o + k) % n) x) ++ set xs ((o + k) % n) x) ≡ take k (drop o xs ++ xs) ++ x ∷ []
 pushed-items xs n o k x size lo room =
     let p = (o + k) % n in
     let ys = set xs p x in
@@ -77,12 +77,12 @@ pushed-items xs n o k x size lo room =
     let one = length-push (take k (drop o xs ++ xs)) x in
     ext-getD 0 (take (k + 1) (drop o ys ++ ys)) (take k (drop o xs ++ xs) ++ x ∷ []) (omega arith)
     (λ i l. item-at ys n o (k + 1) long lo (omega arith) i (omega arith)
-            ∙ ⊎-elim
-              (λ a. getD-set-other xs p ((o + i) % n) x 0 (apart i a) ∙ sym (item-at xs n o k size lo lk i a)
-                    ∙ sym (getD-append-left (take k (drop o xs ++ xs)) (x ∷ []) 0 i (omega arith)))
-              (λ a. let e : i ≡ k = omega arith in
-                    ap (λ j. getD ys ((o + j) % n) 0) e ∙ getD-set-same xs p x 0 (omega arith) ∙ sym (getD-push (take k (drop o xs ++ xs)) x 0 i (omega arith)))
-              (cases-lt i k))
+    ∙ ⊎-elim
+    (λ a. getD-set-other xs p ((o + i) % n) x 0 (apart i a) ∙ sym (item-at xs n o k size lo lk i a)
+    ∙ sym (getD-append-left (take k (drop o xs ++ xs)) (x ∷ []) 0 i (omega arith)))
+    (λ a. let e : i ≡ k = omega arith in
+    ap (λ j. getD ys ((o + j) % n) 0) e ∙ getD-set-same xs p x 0 (omega arith) ∙ sym (getD-push (take k (drop o xs ++ xs)) x 0 i (omega arith)))
+    (cases-lt i k))
   where
     apart : (i : ℕ) → i < k → (o + i) % n ≢ (o + k) % n
     apart i l = ⊎-elim

@@ -37,9 +37,9 @@ module _ (D : ℕ) (δ : Option ℕ) (y : ℕ → ℕ) where
   slot-some (suc j) h c l e =
       ⊎-elim
       (λ q. let ne : leaving D δ j ≡ c → ⊥ = λ z. omega (arith, entry-order D δ h j (omega arith)) in
-            cond-false (eqb (leaving D δ j) c) _ _ (ne-eqb _ _ ne) ∙ slot-some j h c q e)
+      cond-false (eqb (leaving D δ j) c) _ _ (ne-eqb _ _ ne) ∙ slot-some j h c q e)
       (λ q. let same : h ≡ j = omega arith in
-            cond-true (eqb (leaving D δ j) c) _ _ (eq-eqb _ _ (ap (leaving D δ) (sym same) ∙ e)) ∙ ap (λ k. Some (y k)) (sym same))
+      cond-true (eqb (leaving D δ j) c) _ _ (eq-eqb _ _ (ap (leaving D δ) (sym same) ∙ e)) ∙ ap (λ k. Some (y k)) (sym same))
       (cases-lt h j)
 
 pub slot-same : (D : ℕ) (δ : Option ℕ) (y z : ℕ → ℕ) (s c : ℕ) → ((j : ℕ) → j < s → y j ≡ z j) → slot D δ y s c ≡ slot D δ z s c

@@ -94,6 +94,7 @@ module _ (mach : Machine) (m : Mode) (way : Way) (ivs us : List ℕ) (ok : Sound
       most : (d : Option ℕ) → chain-end d a b ≤ length us
       most None = la
       most (Some x) = lb
+
       size : (n : ℕ) → n ≤ length us → length (drop n (ivs ++ C n)) ≡ row m .values
       size n l =
           length-drop n (ivs ++ C n)
@@ -120,12 +121,20 @@ module _ (mach : Machine) (m : Mode) (way : Way) (ivs us : List ℕ) (ok : Sound
         let e : D - 1 + 1 ≡ D = omega arith in
         let z : f (t + (D - 1)) ≡ None = slot-none D δ _ s (t + (D - 1)) (λ j l q. omega (arith, st .due j l)) in
         record {
-          taken = st .taken; within = st .within; some = st .some; gone = st .gone; here = st .here;
+          taken = st .taken;
+          within = st .within;
+          some = st .some;
+          gone = st .gone;
+          here = st .here;
           due = λ j l. omega (arith, st .due j l);
           line = ap (λ r. r ++ None ∷ []) (st .line) ∙ ap (λ x. map f (counting t (D - 1)) ++ x ∷ []) (sym z)
-                 ∙ sym (map-counting-more f t (D - 1) (t + (D - 1)) refl) ∙ ap (λ k. map f (counting t k)) e;
+              ∙ sym (map-counting-more f t (D - 1) (t + (D - 1)) refl) ∙ ap (λ k. map f (counting t k)) e;
           full = blocks-none (mach .row) ∙ st .full;
-          masks = st .masks; links = st .links; registered = st .registered; clocked = st .clocked }
+          masks = st .masks;
+          links = st .links;
+          registered = st .registered;
+          clocked = st .clocked;
+        }
 
     -- a unit enters in its cycle
     module _ (u : ℕ) (en : Enters mach m way us base s h t u) where
@@ -145,7 +154,7 @@ module _ (mach : Machine) (m : Mode) (way : Way) (ivs us : List ℕ) (ok : Sound
               getD-drop (base + h) (ivs ++ C (base + h)) (s - h) 0
               ∙ ap (λ k. before ivs (C (base + h)) k) (omega arith)
               ∙ before-same ivs (C (base + h)) (C (base + s)) (base + s)
-                (λ j q. chained-agree (mach .forward) (row m .width) ivs us (row m .family) way (base + h) (base + s) j (omega arith) (omega arith))
+              (λ j q. chained-agree (mach .forward) (row m .width) ivs us (row m .family) way (base + h) (base + s) j (omega arith) (omega arith))
 
       -- so has the register
       shift-is : row m .family ≡ CipherFeedback → shift-of m way v ≡ shift (mach .forward) (mach .inverse) m way ivs us (base + s)
@@ -153,8 +162,10 @@ module _ (mach : Machine) (m : Mode) (way : Way) (ivs us : List ℕ) (ok : Sound
         where
           pos : 0 < row m .values
           pos = (subst (λ f. Fit f (row m .width) (row m .values)) ef (fit m)) .1
+
           last : 0 < base + s → v .register ≡ shift (mach .forward) (mach .inverse) m way ivs us (base + s - 1)
           last = subst (λ f. Registered f (shift (mach .forward) (mach .inverse) m way ivs us) (base + s) (v .register)) ef (st .registered)
+
           at : (n : ℕ) → n ≡ base + s → shift-of m way v ≡ shift (mach .forward) (mach .inverse) m way ivs us n
           at zero q =
               let lt : v .taken < row m .values = omega (arith, st .taken, pos) in
@@ -166,9 +177,9 @@ module _ (mach : Machine) (m : Mode) (way : Way) (ivs us : List ℕ) (ok : Sound
               let lv : row m .values ≡ length ivs = sym (ok .begins .count) in
               let some-value = pos in
               let rg : v .register ≡ register (row m .width) ivs (C (suc n)) n =
-                  last (omega arith) ∙ ap (shift (mach .forward) (mach .inverse) m way ivs us) (omega arith)
-                  ∙ register-same (row m .width) ivs (C n) (C (suc n)) n
-                    (λ j l. chained-agree (mach .forward) (row m .width) ivs us (row m .family) way n (suc n) j (omega arith) (omega arith)) in
+              last (omega arith) ∙ ap (shift (mach .forward) (mach .inverse) m way ivs us) (omega arith)
+              ∙ register-same (row m .width) ivs (C n) (C (suc n)) n
+              (λ j l. chained-agree (mach .forward) (row m .width) ivs us (row m .family) way n (suc n) j (omega arith) (omega arith)) in
               ap (λ x. cond (ltb x (row m .values)) (link-of m way v) (shifted (row m .width) (v .register) (link-of m way v))) tk
               ∙ ap (λ x. cond (ltb (suc n) x) (link-of m way v) (shifted (row m .width) (v .register) (link-of m way v))) lv
               ∙ ap (λ x. cond (ltb (suc n) (length ivs)) x (shifted (row m .width) (v .register) x)) lk
@@ -188,7 +199,7 @@ module _ (mach : Machine) (m : Mode) (way : Way) (ivs us : List ℕ) (ok : Sound
           let cycle = en .cycle in
           let e : D - 1 + 1 ≡ D = omega arith in
           let same : (c : ℕ) → t ≤ c → c < t + (D - 1) → old c ≡ new c = λ c l r.
-              sym (ap (λ k. slot D δ (λ j. y (base + j)) k c) (add-one s) ∙ cond-false (eqb (leaving D δ s) c) _ _ (ne-eqb _ _ (λ z. absurd (omega arith)))) in
+          sym (ap (λ k. slot D δ (λ j. y (base + j)) k c) (add-one s) ∙ cond-false (eqb (leaving D δ s) c) _ _ (ne-eqb _ _ (λ z. absurd (omega arith)))) in
           let last : new (t + (D - 1)) ≡ Some (y (base + s)) = slot-some D δ (λ j. y (base + j)) (s + 1) s (t + (D - 1)) (omega arith) (omega arith) in
           ap (λ r. r ++ Some (y (base + s)) ∷ []) (st .line ∙ map-same old new t (D - 1) same)
           ∙ ap (λ x. map new (counting t (D - 1)) ++ x ∷ []) (sym last)
@@ -231,7 +242,8 @@ module _ (mach : Machine) (m : Mode) (way : Way) (ivs us : List ℕ) (ok : Sound
             masks = masks-entered;
             links = links-entered;
             registered = registered-next (row m .family) (shift (mach .forward) (mach .inverse) m way ivs us) (base + s) (base + (s + 1)) (v .register) (shift-of m way v) (omega arith) shift-is;
-            clocked = st .clocked }
+            clocked = st .clocked;
+          }
 
   -- the row moves, and what stands at its front comes out
   module _ (base s h t past : ℕ) (places : List (Option ℕ)) (v : View) (jn : Joined mach m way ivs us base s h t past places v) where
@@ -256,25 +268,30 @@ module _ (mach : Machine) (m : Mode) (way : Way) (ivs us : List ℕ) (ok : Sound
       front-empty =
           front-is
           ∙ slot-none D δ (λ j. y (base + j)) s t
-            (λ j l e. ⊎-elim
-              (λ q. omega (arith, jn .gone j q))
-              (λ q. ⊎-elim
-                (λ r. omega (arith, jn .here (omega arith), entry-order D δ h j (omega arith)))
-                (λ r. let same : h ≡ j = omega arith in not-due (omega arith) (ap (leaving D δ) same ∙ e))
-                (cases-lt h j))
-              (cases-lt j h))
+          (λ j l e. ⊎-elim
+          (λ q. omega (arith, jn .gone j q))
+          (λ q. ⊎-elim
+          (λ r. omega (arith, jn .here (omega arith), entry-order D δ h j (omega arith)))
+          (λ r. let same : h ≡ j = omega arith in not-due (omega arith) (ap (leaving D δ) same ∙ e))
+          (cases-lt h j))
+          (cases-lt j h))
 
       pub still-standing : Standing (moved-on mach places) m way ivs us base s h (t + 1) past (counted v)
       still-standing =
           record {
-            taken = jn .taken; within = jn .within; some = jn .some;
+            taken = jn .taken;
+            within = jn .within;
+            some = jn .some;
             gone = λ j l. omega (arith, jn .gone j l);
             here = λ l. let ne : leaving D δ h ≡ t → ⊥ = not-due l in omega (arith, jn .here l);
             due = λ j l. omega (arith, jn .due j l);
             line = ap (drop 1) line-split;
             full = blocks-stay places front-empty ∙ jn .full;
-            masks = jn .masks; links = jn .links; registered = jn .registered;
-            clocked = clocked-next }
+            masks = jn .masks;
+            links = jn .links;
+            registered = jn .registered;
+            clocked = clocked-next;
+          }
 
     -- the oldest unit inside comes out
     module _ (some : h < s) (now : leaving D δ h ≡ t) where
@@ -306,7 +323,9 @@ module _ (mach : Machine) (m : Mode) (way : Way) (ivs us : List ℕ) (ok : Sound
       pub standing-left : Standing (moved-on mach places) m way ivs us base s (h + 1) (t + 1) past (counted (left m way v (y (base + h))))
       standing-left =
           record {
-            taken = jn .taken; within = jn .within; some = omega arith;
+            taken = jn .taken;
+            within = jn .within;
+            some = omega arith;
             gone = λ j l. ⊎-elim (λ q. omega (arith, jn .gone j q)) (λ (q : h ≤ j). let e : j ≡ h = omega arith in rw e (omega arith)) (cases-lt j h);
             here = λ l. omega (arith, entry-order D δ h (h + 1) (omega arith));
             due = λ j l. omega (arith, jn .due j l);
@@ -315,4 +334,5 @@ module _ (mach : Machine) (m : Mode) (way : Way) (ivs us : List ℕ) (ok : Sound
             masks = ap (drop 1) masks-split;
             links = links-left;
             registered = jn .registered;
-            clocked = clocked-next }
+            clocked = clocked-next;
+          }

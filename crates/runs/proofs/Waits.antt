@@ -46,8 +46,7 @@ early-first mach f given ys = λ calls us xs s p. omega (arith, passed-early (ma
 pub waits-none : (mach : Machine) (f : Frame) (given : ℕ) (ys : List ℕ) → distanceOf (f .mode) (f .way) ≡ None → Waits mach mach f f given given ys ys
 waits-none mach f given ys e = λ calls us xs s p.
     let none : distance-in calls ≡ None = sym (distance-is-in mach f calls us s _ _ (p .at-work)) ∙ e in
-    let now : passed (mach .depth) (distance-in calls) s ≡ entry (mach .depth) (distance-in calls) s = rw none (passed-flat (mach .depth) s) in
-    (
+    let now : passed (mach .depth) (distance-in calls) s ≡ entry (mach .depth) (distance-in calls) s = rw none (passed-flat (mach .depth) s) in (
       subst (λ t. Handing mach f calls us s given t xs ys) now p,
       λ d q. let z : _≡_ {A = ℕ} 0 1 = cc in absurd (omega arith),
     )
@@ -58,7 +57,7 @@ module _ (mach : Machine) (places : List (Option ℕ)) (f : Frame) (calls : Call
   -- once its partner is out, the next unit's cycle has come
   comes : ((d : ℕ) → distance-in calls ≡ Some d → s - (out-in (mach .depth) calls + given) < d)
       → Handing (holding mach places) f calls us s given (entry (mach .depth) (distance-in calls) s) xs ys
-        × ((d : ℕ) → distance-in calls ≡ Some d → s - (out-in (mach .depth) calls + given) < d)
+      × ((d : ℕ) → distance-in calls ≡ Some d → s - (out-in (mach .depth) calls + given) < d)
   comes few =
       let w = p .at-work in
       let late = has-come (holding mach places) _ _ _ us _ s _ _ _ (view f) (w .standing) (w .sound .deep) (distance-proper (order-of calls .mode) (way-of calls)) few in

@@ -12,11 +12,11 @@ use Rattle.std.specs.declared.result.Result.the-variants.{Ok, Err}
 use Rattle.refusals.specs.declared.Refusal.{Refusal}
 use Rattle.engines.specs.Machines.{Machine}
 use Rattle.modes.specs.Schedule.{entry}
-use Rattle.modes.specs.Table.{distanceOf}
+use Rattle.modes.specs.Table.{row}
 use Rattle.modes.specs.Values.{listed}
 use Rattle.calls.specs.Stretches.{passed}
 use Rattle.calls.specs.Calls.{Answer, gave, refused, Calls, fed, drained, order-of, way-of, taken, stretch}
-use Rattle.calls.specs.Due.{distance-in, due-feed, due-drain}
+use Rattle.calls.specs.Due.{distance-in, refusal-to-feed, refusal-to-drain, due-feed, due-drain}
 use Rattle.runs.specs.declared.frame.Frame.{Frame}
 use Rattle.runs.specs.Rings.{items, one-if}
 use Rattle.runs.specs.Views.{Kept}
@@ -38,19 +38,26 @@ abbrev pub refusal-in : Result ℕ Refusal → Answer
 refusal-in (Ok n) = gave []
 refusal-in (Err e) = refused e
 
+-- the refusal, or none, over what the run itself tells
+abbrev pub feed-refusal : Frame → List ℕ → ℕ → Answer
+feed-refusal f us room = refusal-to-feed (length (items (f .pending))) (row (f .mode) .width) (f .before + f .taken) us room (gave [])
+
+abbrev pub drain-refusal : Frame → ℕ → Answer
+drain-refusal f room = refusal-to-drain (length (items (f .pending))) room (gave [])
+
 -- a feed answers what is due, whatever calls went before, and the run then stands for them and this one
 abbrev pub Fed : (mach mach′ : Machine) (f f′ : Frame) (us xs ys : List ℕ) → Result ℕ Refusal → Type 0
 Fed mach mach′ f f′ us xs ys r =
     (calls : Calls true) → Stands mach f calls
     → Answered xs ys r (due-feed (mach .forward) (mach .inverse) (mach .depth) calls us (length xs))
-      × Stands mach′ f′ (fed us (length xs) (due-feed (mach .forward) (mach .inverse) (mach .depth) calls us (length xs)) calls)
+    × Stands mach′ f′ (fed us (length xs) (due-feed (mach .forward) (mach .inverse) (mach .depth) calls us (length xs)) calls)
 
 -- so does a drain
 abbrev pub Drained : (mach mach′ : Machine) (f f′ : Frame) (xs ys : List ℕ) → Result ℕ Refusal → Type 0
 Drained mach mach′ f f′ xs ys r =
     (calls : Calls true) → Stands mach f calls
     → Answered xs ys r (due-drain (mach .forward) (mach .inverse) (mach .depth) calls (length xs))
-      × Stands mach′ f′ (drained (length xs) (due-drain (mach .forward) (mach .inverse) (mach .depth) calls (length xs)) calls)
+    × Stands mach′ f′ (drained (length xs) (due-drain (mach .forward) (mach .inverse) (mach .depth) calls (length xs)) calls)
 
 -- ---- on the way
 
@@ -92,14 +99,18 @@ abbrev pub Waits : (mach mach′ : Machine) (f f′ : Frame) (given given′ : �
 Waits mach mach′ f f′ given given′ ys ys′ =
     (calls : Calls true) (us xs : List ℕ) (s : ℕ) → Handing mach f calls us s given (passed (mach .depth) (distance-in calls) s) xs ys
     → Handing (holding mach (mach′ .row)) f′ calls us s given′ (entry (mach .depth) (distance-in calls) s) xs ys′
-      × ((δ : ℕ) → distance-in calls ≡ Some δ → s - (out-in (mach .depth) calls + given′) < δ)
+    × ((δ : ℕ) → distance-in calls ≡ Some δ → s - (out-in (mach .depth) calls + given′) < δ)
 
 -- all units of a feed, each in its cycle
 abbrev pub Pumps : (mach mach′ : Machine) (f f′ : Frame) (us : List ℕ) (n given : ℕ) (xs ys : List ℕ) → Type 0
 Pumps mach mach′ f f′ us n given xs ys =
     (calls : Calls true) → Stands mach f calls
     → Handing (holding mach (mach′ .row)) f′ calls (taken calls ++ us) (stretch calls + n) given
-      (passed (mach .depth) (distance-in calls) (stretch calls + n)) xs ys
+    (passed (mach .depth) (distance-in calls) (stretch calls + n)) xs ys
+
+-- the same engine, mode, way and first count
+abbrev pub Same : (mach mach′ : Machine) (f f′ : Frame) → Type 0
+Same mach mach′ f f′ = Same-engine mach mach′ × Kept f f′
 
 -- what needs no history: a run whose engine, mode, way and first count are the same, with more units taken, and no more in memory or handed out
 -- than were there or came

@@ -10,9 +10,10 @@ use Rattle.modes.specs.declared.order.Order.{Order}
 use Rattle.modes.specs.Values.{listed}
 use Rattle.calls.specs.Stretches.{passed}
 use Rattle.calls.specs.Calls.{Told, Calls, started, closed, order-of, way-of, taken, stretch, count-told, count-before}
-use Rattle.calls.specs.Due.{distance-in, inside-in, cycles-passed, Follows}
+use Rattle.calls.specs.Due.{distance-in, inside-in, cycles-passed, due-told, Follows}
 use Rattle.calls.specs.Theorem.{Exact}
 use Rattle.runs.specs.declared.frame.Frame.{Frame}
+use Rattle.runs.specs.declared.run.Run.{Run}
 use Rattle.runs.specs.Rings.{items}
 use Rattle.runs.specs.Views.{view}
 use Rattle.runs.specs.Standing.{blocks, Sound, Standing}
@@ -60,6 +61,10 @@ pub record Fresh (f : Frame) (order : Order) (heads : Way) (count : ℕ) : Type 
 abbrev pub Started : (mach mach′ : Machine) (count : ℕ) → Order → Way → Frame → Type 0
 Started mach mach′ count order way f = (calls : Calls false) → Rests mach count calls → Stands mach′ f (started order way calls)
 
+-- a number that a run tells is the one due, whatever calls went before
+abbrev pub Tells : Machine → Frame → (Told → ℕ) → ℕ → Type 0
+Tells mach f number n = (calls : Calls true) → Stands mach f calls → n ≡ number (due-told (mach .depth) calls)
+
 -- what a run tells, and the blocks in its engine's row
 abbrev pub told-by : Machine → Frame → Told
 told-by mach f =
@@ -76,3 +81,7 @@ told-by mach f =
 abbrev pub Closed : (mach mach′ : Machine) → Frame → (count : ℕ) → Type 0
 Closed mach mach′ f count =
     (calls : Calls true) → Stands mach f calls → Rests mach′ count (closed (told-by mach f) calls) × Exact (mach .depth) calls (told-by mach f)
+
+-- a relation between what is known of a run before a call and after it: what its engine means, and what it remembers
+abbrev pub of-run {ℓ} : {X : Type ℓ} {E W : Type 0} → ((mach mach′ : Machine) (f f′ : Frame) → X) → (E → Machine) → (run run′ : Run E W) → X
+of-run R machine run run′ = R (machine (run .engine)) (machine (run′ .engine)) (run .frame) (run′ .frame)

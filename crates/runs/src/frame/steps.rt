@@ -41,7 +41,8 @@ fn direction_for(family: Family, way: Way) -> Direction
     ensures { λ r. ⌜ r ≡ direction-by family way ⌝ }
 {
     match (family, way) {
-        (Family::Codebook, Way::Deciphering) | (Family::Chaining, Way::Deciphering) => Direction::Inverse,
+        (Family::Codebook, Way::Deciphering) | (Family::Chaining, Way::Deciphering) =>
+            Direction::Inverse,
         _ => Direction::Forward,
     }
 }

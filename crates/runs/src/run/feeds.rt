@@ -1,18 +1,15 @@
 //! Feeding a run.
 ghost use mathlib.Core.Path.{_≡_};
-ghost use mathlib.Core.List.{[]};
 ghost use Prim.Native.Nat.{_+_, _≤_, _^_};
 ghost use lib.Dec.{ltb};
 ghost use lib.ListN.{length};
 ghost use Rattle.std.specs.Vec.{made, refused};
 ghost use Rattle.modes.specs.Table.{row};
-ghost use Rattle.calls.specs.Calls.{gave};
-ghost use Rattle.calls.specs.Due.{first-wide, refusal-to-feed};
+ghost use Rattle.calls.specs.Due.{first-wide};
 ghost use Rattle.calls.specs.Limits.{unit-limit};
 ghost use Rattle.runs.specs.Rings.{items};
-ghost use Rattle.runs.specs.Views.{Kept};
-ghost use Rattle.runs.specs.Standing.{Same-engine};
-ghost use Rattle.runs.specs.Handing.{Fed, refusal-in, Pumps, Onward};
+ghost use Rattle.runs.specs.Stands.{of-run};
+ghost use Rattle.runs.specs.Handing.{Fed, feed-refusal, refusal-in, Pumps, Onward, Same};
 use super::Run;
 use calls::UNIT_LIMIT;
 use engines::engine::Engine;
@@ -44,8 +41,8 @@ impl<E: Engine, W> Run<E, W> {
     fn pump(&mut self, units: &[u64], out: &mut [u64]) -> usize
         requires room { ⌜ length (items (now self .frame .pending)) + length (now units) ≤ length (now out) ⌝ }
         requires limit { ⌜ now self .frame .before + now self .frame .taken + length (now units) ≤ unit-limit ⌝ }
-        ensures pumped { λ r. ⌜ Pumps (E·Engine .machine (now (self .entry) .engine)) (E·Engine .machine (now (self .exit) .engine)) (now (self .entry) .frame) (now (self .exit) .frame) (now (units .entry)) (length (now (units .entry))) r (now (out .entry)) (now (out .exit)) ⌝ }
-        ensures onward { λ r. ⌜ Onward (E·Engine .machine (now (self .entry) .engine)) (E·Engine .machine (now (self .exit) .engine)) (now (self .entry) .frame) (now (self .exit) .frame) 0 r (length (now (units .entry))) ⌝ }
+        ensures pumped { λ r. ⌜ of-run Pumps (E·Engine .machine) (now (self .entry)) (now (self .exit)) (now (units .entry)) (length (now (units .entry))) r (now (out .entry)) (now (out .exit)) ⌝ }
+        ensures onward { λ r. ⌜ of-run Onward (E·Engine .machine) (now (self .entry)) (now (self .exit)) 0 r (length (now (units .entry))) ⌝ }
         ensures idle { λ r. ⌜ (length (now (units .entry)) ≡ 0 → (r ≡ 0) × (now (self .exit) ≡ now (self .entry)) × (now (out .exit) ≡ now (out .entry))) ⌝ }
     {
         let mut given = 0;
@@ -60,12 +57,12 @@ impl<E: Engine, W> Run<E, W> {
     /// Refused, and then nothing is altered: an output list shorter than the units in the engine and those offered; a unit that
     /// is too wide for the mode; more units than the cartridge still takes.
     pub fn feed(&mut self, units: &[u64], out: &mut [u64]) -> Result<usize, Refusal>
-        ensures answered { λ r. ⌜ Fed (E·Engine .machine (now (self .entry) .engine)) (E·Engine .machine (now (self .exit) .engine)) (now (self .entry) .frame) (now (self .exit) .frame) (now (units .entry)) (now (out .entry)) (now (out .exit)) r ⌝ }
-        ensures refusal { λ r. ⌜ refusal-in r ≡ refusal-to-feed (length (items (now (self .entry) .frame .pending))) (row (now (self .entry) .frame .mode) .width) (now (self .entry) .frame .before + now (self .entry) .frame .taken) (now (units .entry)) (length (now (out .entry))) (gave []) ⌝ }
+        ensures answered { λ r. ⌜ of-run Fed (E·Engine .machine) (now (self .entry)) (now (self .exit)) (now (units .entry)) (now (out .entry)) (now (out .exit)) r ⌝ }
+        ensures refusal { λ r. ⌜ refusal-in r ≡ feed-refusal (now (self .entry) .frame) (now (units .entry)) (length (now (out .entry))) ⌝ }
         ensures within { λ r. ⌜ made r (λ n. n ≤ length (now (out .entry))) ⌝ }
         ensures unaltered { λ r. ⌜ refused r (λ _. (now (self .exit) ≡ now (self .entry)) × (now (out .exit) ≡ now (out .entry))) ⌝ }
         ensures idle { λ r. ⌜ (length (now (units .entry)) ≡ 0 → (now (self .exit) ≡ now (self .entry)) × (now (out .exit) ≡ now (out .entry))) ⌝ }
-        ensures same { λ _. ⌜ Same-engine (E·Engine .machine (now (self .entry) .engine)) (E·Engine .machine (now (self .exit) .engine)) × Kept (now (self .entry) .frame) (now (self .exit) .frame) ⌝ }
+        ensures same { λ _. ⌜ of-run Same (E·Engine .machine) (now (self .entry)) (now (self .exit)) ⌝ }
     {
         let wanted = self.frame.pending.len() + units.len();
         if out.len() < wanted {

@@ -19,9 +19,10 @@ returns g c =
           (c .args .unit) (c .admit-input .result) (c .clock-answer .result) (c .release .result)
           (count .same .0 ∙ in-frame .same .0) (count .same .1 ∙ in-frame .same .1)
           (in-frame .after) (turn .answer) (turn .after) (count .after) (out .after);
-      same =
-        (turned-same (mach (run .engine)) (mach (c .clock-answer .last .self)) (c .admit-input .result) (turn .after),
-         (out .same .0 ∙ count .same .0 ∙ in-frame .same .0, out .same .1 ∙ count .same .1 ∙ in-frame .same .1, out .same .2 ∙ count .same .2 ∙ in-frame .same .2));
+      same = (
+        turned-same (mach (run .engine)) (mach (c .clock-answer .last .self)) (c .admit-input .result) (turn .after),
+        (out .same .0 ∙ count .same .0 ∙ in-frame .same .0, out .same .1 ∙ count .same .1 ∙ in-frame .same .1, out .same .2 ∙ count .same .2 ∙ in-frame .same .2),
+      );
       most = omega (arith, out .most, in-frame .most, ap (λ v. length (v .pending)) (count .after));
       count = out .count ∙ ap (λ v. v .taken) (count .after) ∙ in-frame .count;
     }
