@@ -35,9 +35,11 @@ use Rattle.runs.specs.declared.frame.Frame.{Frame}
 use Rattle.runs.specs.Rings.{items}
 use Rattle.runs.specs.Standing.{blocks, Same-engine}
 use Rattle.runs.specs.Stands.{Stands}
-use Rattle.runs.specs.Handing.{Answered, Fed, Drained, refusal-in}
+use Rattle.runs.specs.Handing.{Answered, feed-refusal, Fed, Drained}
 use Rattle.runs.specs.Whole.{cycles-for}
-use Rattle.runs.specs.Emptying.{Emptied, Taken, Fed-empty}
+use Rattle.runs.specs.Emptying.{Emptied, Fed-empty}
+use Rattle.runs.proofs.Numbers.{inside-told, count-told-now, width-told, in-row-told}
+use Rattle.runs.proofs.DrainReplies.{drain-accepts}
 
 -- ---- an engine with nothing in it
 
@@ -86,28 +88,18 @@ same-then mach mach′ mach″ p q = (q .0 ∙ p .0, q .1 ∙ p .1, q .2 ∙ p .
 -- ---- a run that stands for calls
 
 module _ (mach : Machine) (f : Frame) (calls : Calls true) (stands : Stands mach f calls) where
-  in-stretch : inside-in (mach .depth) calls ≤ stretch calls
-  in-stretch = inside-most (mach .depth) (distance-in calls) (stretch calls)
-
-  pub pending-inside : length (items (f .pending)) ≡ inside-in (mach .depth) calls
-  pending-inside = ap length (stands .at-work .standing .masks) ∙ length-map-counting _ _ _ ∙ omega (arith, in-stretch)
-
-  pub taken-told : f .taken ≡ length (taken calls)
-  taken-told = omega (arith, stands .at-work .standing .taken, progress _ _ _ calls (stands .follows) .whole)
-
   -- what a feed is refused, by what the run remembers
-  pub feed-refusal : (us : List ℕ) (room : ℕ) (otherwise : Answer)
-      → refusal-to-feed (length (items (f .pending))) (row (f .mode) .width) (f .before + f .taken) us room otherwise
-        ≡ refusal-to-feed (inside-in (mach .depth) calls) (width-in calls) (count-in calls) us room otherwise
-  feed-refusal us room otherwise =
-      ap (λ n. refusal-to-feed n (row (f .mode) .width) (f .before + f .taken) us room otherwise) pending-inside
-      ∙ ap (λ m. refusal-to-feed (inside-in (mach .depth) calls) (row m .width) (f .before + f .taken) us room otherwise) (stands .at-work .mode)
-      ∙ ap (λ n. refusal-to-feed (inside-in (mach .depth) calls) (width-in calls) n us room otherwise) (omega (arith, stands .at-work .before, taken-told))
+  pub refusal-told : (us : List ℕ) (room : ℕ)
+      → feed-refusal f us room ≡ refusal-to-feed (inside-in (mach .depth) calls) (width-in calls) (count-in calls) us room (gave [])
+  refusal-told us room =
+      ap (λ n. refusal-to-feed n (row (f .mode) .width) (f .before + f .taken) us room (gave [])) (inside-told mach f calls stands)
+      ∙ ap (λ n. refusal-to-feed (inside-in (mach .depth) calls) n (f .before + f .taken) us room (gave [])) (width-told mach f calls stands)
+      ∙ ap (λ n. refusal-to-feed (inside-in (mach .depth) calls) (width-in calls) n us room (gave [])) (count-told-now mach f calls stands)
 
   -- with nothing inside all results are out
-  pub all-out : inside-in (mach .depth) calls ≡ 0
+  pub results-out : inside-in (mach .depth) calls ≡ 0
       → handed-out calls ≡ results (mach .forward) (mach .inverse) (order-of calls .mode) (way-of calls) (listed (order-of calls .values)) (taken calls) (length (taken calls))
-  all-out quiet =
+  results-out quiet =
       let all : length (taken calls) - inside-in (mach .depth) calls ≡ length (taken calls) = omega arith in
       progress _ _ _ calls (stands .follows) .front
       ∙ ap (results (mach .forward) (mach .inverse) (order-of calls .mode) (way-of calls) (listed (order-of calls .values)) (taken calls)) all
@@ -115,10 +107,9 @@ module _ (mach : Machine) (f : Frame) (calls : Calls true) (stands : Stands mach
   -- and its engine rests
   pub engine-rests : inside-in (mach .depth) calls ≡ 0 → mach ≡ emptied mach
   engine-rests quiet =
-      let line = stands .at-work .standing .line in
-      let size : length (mach .row) ≡ mach .depth - 1 = ap length line ∙ length-map-counting _ _ _ in
+      let size : length (mach .row) ≡ mach .depth - 1 = ap length (stands .at-work .standing .line) ∙ length-map-counting _ _ _ in
       let row : mach .row ≡ replicate (mach .depth - 1) None =
-      no-blocks (mach .row) (stands .at-work .standing .full ∙ omega (arith, in-stretch)) ∙ ap (λ n. replicate n None) size in
+      no-blocks (mach .row) (in-row-told mach f calls stands ∙ quiet) ∙ ap (λ n. replicate n None) size in
       λ i. record { forward = mach .forward; inverse = mach .inverse; depth = mach .depth; row = row i }
 
 -- ---- answers
@@ -203,7 +194,7 @@ written-behind xs ys ws zs hs ks given count output rest more =
     ∙ sym (append-assoc hs ks (drop (length (hs ++ ks)) xs))
 
 module _ (mach1 mach2 : Machine) (f1 f2 : Frame) (calls : Calls true) (us xs ys ws zs hs : List ℕ) (given : ℕ) (count : given ≡ length hs)
-    (output : ys ≡ hs ++ drop (length hs) xs) (rest : ws ≡ drop given ys) (within : given ≤ length xs)
+    (output : ys ≡ hs ++ drop (length hs) xs) (rest : ws ≡ drop given ys)
     (stands : Stands mach1 f1 (fed us (length xs) (gave hs) calls)) where
   rest-is : ws ≡ drop (length hs) xs
   rest-is = rest ∙ ap (drop given) output ∙ drop-at hs (drop (length hs) xs) given (sym count)
@@ -217,7 +208,7 @@ module _ (mach1 mach2 : Machine) (f1 f2 : Frame) (calls : Calls true) (us xs ys 
       let f = stands .follows in
       let fits : inside-in (mach1 .depth) (fed us (length xs) (gave hs) calls) ≤ length ws =
       omega (arith, room-left, fed-count _ _ _ calls us (length xs) 0 hs f, fed-room _ _ _ us (length xs) hs _ (f .0)) in
-      subst (Answered ws zs (Err e)) (cond-false _ _ _ (le-ltb _ _ fits)) (answers (fed us (length xs) (gave hs) calls) stands .0)
+      subst (Answered ws zs (Err e)) (drain-accepts _ (length ws) fits _) (answers (fed us (length xs) (gave hs) calls) stands .0)
 
   pub emptied-by : (n : ℕ) → Drained mach1 mach2 f1 f2 ws zs (Ok n)
       → Emptied mach2 f2 calls us xs (take given ys ++ (zs ++ drop (length ys - given) (drop given ys))) (given + n)
@@ -236,36 +227,27 @@ module _ (mach1 mach2 : Machine) (f1 f2 : Frame) (calls : Calls true) (us xs ys 
       }
 
 module _ (mach mach1 : Machine) (f f1 : Frame) (us xs ys : List ℕ) where
-  -- the feed was refused
-  pub refused-at-once : (e : Refusal) → Fed mach mach1 f f1 us xs ys (Err e)
-      → refused e ≡ refusal-to-feed (length (items (f .pending))) (row (f .mode) .width) (f .before + f .taken) us (length xs) (gave [])
+  pub refused-at-once : (e : Refusal) → refused e ≡ feed-refusal f us (length xs) → Fed mach mach1 f f1 us xs ys (Err e)
       → Fed-empty mach mach1 f f1 us xs ys (Err e)
-  refused-at-once e answers refusal calls stands =
-      let a = answers calls stands in
+  refused-at-once e refusal feeds calls stands =
+      let a = feeds calls stands in
       let p = refused-by xs ys e _ (a .0) in
-      record {
-        refusal = refusal ∙ feed-refusal mach f calls stands us (length xs) (gave []);
-        went = (p .1, subst (λ b. Stands mach1 f1 (fed us (length xs) b calls)) (p .0) (a .1));
-      }
+      (refusal, (p .1, subst (λ b. Stands mach1 f1 (fed us (length xs) b calls)) (p .0) (a .1)))
 
-  module _ (mach2 : Machine) (f2 : Frame) (ws zs : List ℕ) (given : ℕ) (rest : ws ≡ drop given ys) (within : given ≤ length xs)
-      (answers : Fed mach mach1 f f1 us xs ys (Ok given)) where
-    pub never-refused : (e : Refusal) (r : Result ℕ Refusal) (out : List ℕ) → Drained mach1 mach2 f1 f2 ws zs (Err e) → Fed-empty mach mach2 f f2 us xs out r
-    never-refused e r out drains calls stands =
-        let a = answers calls stands in
+  module _ (mach2 : Machine) (f2 : Frame) (ws zs : List ℕ) (given : ℕ) (rest : ws ≡ drop given ys) (feeds : Fed mach mach1 f f1 us xs ys (Ok given)) where
+    pub never-refused : (e : Refusal) → Drained mach1 mach2 f1 f2 ws zs (Err e) → (calls : Calls true) → Stands mach f calls → ⊥
+    never-refused e drains calls stands =
+        let a = feeds calls stands in
         let p = gave-by xs ys given _ (a .0) in
-        absurd (drain-fits mach1 mach2 f1 f2 calls us xs ys ws zs (p .0) given (p .2) (p .3) rest within
-        (subst (λ b. Stands mach1 f1 (fed us (length xs) b calls)) (p .1) (a .1)) e drains)
+        drain-fits mach1 mach2 f1 f2 calls us xs ys ws zs (p .0) given (p .2) (p .3) rest
+        (subst (λ b. Stands mach1 f1 (fed us (length xs) b calls)) (p .1) (a .1)) e drains
 
-    pub fed-and-drained : (n : ℕ)
-        → gave [] ≡ refusal-to-feed (length (items (f .pending))) (row (f .mode) .width) (f .before + f .taken) us (length xs) (gave [])
-        → Drained mach1 mach2 f1 f2 ws zs (Ok n)
+    pub fed-and-drained : (n : ℕ) → gave [] ≡ feed-refusal f us (length xs) → Drained mach1 mach2 f1 f2 ws zs (Ok n)
         → Fed-empty mach mach2 f f2 us xs (take given ys ++ (zs ++ drop (length ys - given) (drop given ys))) (Ok (given + n))
     fed-and-drained n refusal drains calls stands =
-        let a = answers calls stands in
-        let p = gave-by xs ys given _ (a .0) in
-        record {
-          refusal = refusal ∙ feed-refusal mach f calls stands us (length xs) (gave []);
-          went = emptied-by mach1 mach2 f1 f2 calls us xs ys ws zs (p .0) given (p .2) (p .3) rest within
-              (subst (λ b. Stands mach1 f1 (fed us (length xs) b calls)) (p .1) (a .1)) n drains;
-        }
+        let a = feeds calls stands in
+        let p = gave-by xs ys given _ (a .0) in (
+          refusal,
+          emptied-by mach1 mach2 f1 f2 calls us xs ys ws zs (p .0) given (p .2) (p .3) rest
+              (subst (λ b. Stands mach1 f1 (fed us (length xs) b calls)) (p .1) (a .1)) n drains,
+        )

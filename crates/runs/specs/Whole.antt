@@ -22,6 +22,15 @@ pub record Ending : Type 0 where
   pub count : ℕ
   pub output : List ℕ
 
+-- a refusal ends it so, else it goes on
+abbrev pub unless-refused : Answer → (Refusal → Ending) → Ending → Ending
+unless-refused (refused e) ends on = ends e
+unless-refused (gave hs) ends on = on
+
+-- which refusal, or none, the units vs meet behind the units us, whose results stand first in the output list xs
+abbrev pub refusal-behind : Order → (us vs xs : List ℕ) → Answer
+refusal-behind order us vs xs = refusal-to-feed 0 (row (order .mode) .width) (length us) vs (length xs - length us) (gave [])
+
 -- the cycles of a feed and its drain; with no units there are none
 abbrev pub cycles-for : ℕ → Option ℕ → List ℕ → ℕ
 cycles-for D δ [] = 0
@@ -37,20 +46,12 @@ module _ (mach : Machine) (order : Order) (way : Way) where
         output = results (mach .forward) (mach .inverse) (order .mode) way (listed (order .values)) us (length us) ++ drop (length us) xs;
       }
 
-  -- which refusal, or none, the units vs meet behind the units us, whose results stand first in xs
-  abbrev pub refusal-behind : (us vs xs : List ℕ) → Answer
-  refusal-behind us vs xs = refusal-to-feed 0 (row (order .mode) .width) (length us) vs (length xs - length us) (gave [])
-
-  -- a refusal ends the run
-  abbrev pub behind-second : (first second xs : List ℕ) → Answer → Ending
-  behind-second first second xs (refused e) = ending first xs (Err e)
-  behind-second first second xs (gave hs) =
-      ending (first ++ second) xs
-      (Ok (cycles-for (mach .depth) (distanceOf (order .mode) way) first + cycles-for (mach .depth) (distanceOf (order .mode) way) second))
-
-  abbrev pub behind-first : (first second xs : List ℕ) → Answer → Ending
-  behind-first first second xs (refused e) = ending [] xs (Err e)
-  behind-first first second xs (gave hs) = behind-second first second xs (refusal-behind first second xs)
+  abbrev pub cycles-in-two : (first second : List ℕ) → ℕ
+  cycles-in-two first second =
+      cycles-for (mach .depth) (distanceOf (order .mode) way) first + cycles-for (mach .depth) (distanceOf (order .mode) way) second
 
   abbrev pub in-two : (first second xs : List ℕ) → Ending
-  in-two first second xs = behind-first first second xs (refusal-behind [] first xs)
+  in-two first second xs =
+      unless-refused (refusal-behind order [] first xs) (λ e. ending [] xs (Err e))
+      (unless-refused (refusal-behind order first second xs) (λ e. ending first xs (Err e))
+      (ending (first ++ second) xs (Ok (cycles-in-two first second))))

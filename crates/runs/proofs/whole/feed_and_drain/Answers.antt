@@ -10,7 +10,7 @@ returns-in-Break-given g c =
     let p = err-from-errBy (c .from-residual .result) (c .from-residual .ensures .1) in
     let feed = c .in-Break-given .ensures tt in
     rw (p .1, p .2)
-    (record { emptied = refused-at-once _ _ _ _ _ _ _ _ (feed .answered) (feed .refusal); within = tt; same = feed .same .0 })
+    (record { emptied = refused-at-once _ _ _ _ _ _ _ _ (feed .refusal) (feed .answered); within = tt; same = feed .same .0 })
 
 pub returns-in-Break-drained : need.returns-in-Break-drained
 returns-in-Break-drained g c =
@@ -25,7 +25,7 @@ returns-in-Break-drained g c =
     let rest = take-rest (c .feed .last .out) given in
     rw (p .1)
     (record {
-      emptied = never-refused (machine (run .engine)) (machine (fed .engine)) (run .frame) (fed .frame) (c .args .units .now) (c .args .out .now) (c .feed .last .out) (machine (emptied .engine)) (emptied .frame) _ (c .drain .last .out) given rest (feed .within) (feed .answered) _ _ _ (drain .answered);
+      emptied = λ calls stands. absurd (never-refused (machine (run .engine)) (machine (fed .engine)) (run .frame) (fed .frame) (c .args .units .now) (c .args .out .now) (c .feed .last .out) (machine (emptied .engine)) (emptied .frame) _ (c .drain .last .out) given rest (feed .answered) _ (drain .answered) calls stands);
       within = tt;
       same = same-then (machine (run .engine)) (machine (fed .engine)) (machine (emptied .engine)) (feed .same .0) (drain .same .0);
     })
@@ -41,7 +41,7 @@ returns g c =
     let machine = g .E·Engine .machine in
     let rest = take-rest (c .feed .last .out) given in
     record {
-      emptied = fed-and-drained (machine (run .engine)) (machine (fed .engine)) (run .frame) (fed .frame) (c .args .units .now) (c .args .out .now) (c .feed .last .out) (machine (emptied .engine)) (emptied .frame) _ (c .drain .last .out) given rest (feed .within) (feed .answered) _ (feed .refusal) (drain .answered);
+      emptied = fed-and-drained (machine (run .engine)) (machine (fed .engine)) (run .frame) (fed .frame) (c .args .units .now) (c .args .out .now) (c .feed .last .out) (machine (emptied .engine)) (emptied .frame) _ (c .drain .last .out) given rest (feed .answered) _ (feed .refusal) (drain .answered);
       within = search needs;
       same = same-then (machine (run .engine)) (machine (fed .engine)) (machine (emptied .engine)) (feed .same .0) (drain .same .0);
     }
