@@ -1,38 +1,35 @@
 -- A feed with a drain after it, in a list of calls whose answers were due.
 use mathlib.Core.Path.{_≡_, refl, sym, ap, subst, _∙_}
 use mathlib.Core.Bool.{Bool, true, false, cond}
-use mathlib.Core.List.{List, [], _∷_, _++_, map}
+use mathlib.Core.List.{List, [], _∷_, _++_}
 use mathlib.Core.Logic.{_⊎_, inl, inr, ⊎-elim}
-use Prim.Native.Nat.{ℕ, zero, suc, _+_, _-_, _*_, _/_, _<_, _≤_}
+use Prim.Native.Nat.{ℕ, zero, suc, _+_, _-_, _*_, _≤_}
 use native.Mathlib.Omega.{arith}
 use native.Mathlib.Nat.{add-zero, div-zero}
 use lib.Dec.{leb, ltb}
 use lib.ListN.{length, drop, take, replicate}
 use Rattle.std.proofs.shelf.Counted.{length-map-counting}
-use Rattle.std.proofs.shelf.Lists.{length-append, length-drop, nil-from-length, append-nil, append-assoc, drop-all, drop-drop, take-at, drop-at}
-use Rattle.std.proofs.shelf.Tests.{le-leb, ltb-false, le-ltb, cond-true, cond-false, cases-lt}
-use Rattle.std.specs.Iters.{counting}
+use Rattle.std.proofs.shelf.Lists.{length-append, length-drop, append-nil, append-assoc, drop-all, drop-drop, take-at, drop-at}
+use Rattle.std.proofs.shelf.Tests.{le-leb, ltb-false, cond-true, cases-lt}
 use Rattle.std.specs.declared.option.Option.{Option}
 use Rattle.std.specs.declared.option.Option.the-variants.{Some, None}
-use Rattle.std.specs.declared.result.Result.{Result}
 use Rattle.std.specs.declared.result.Result.the-variants.{Ok, Err}
 use Rattle.refusals.specs.declared.Refusal.{Refusal}
 use Rattle.engines.specs.Machines.{Machine}
 use Rattle.engines.specs.Cycles.{emptied}
-use Rattle.modes.specs.Schedule.{entry, leaving, cost, drained as drained-cost}
+use Rattle.modes.specs.Schedule.{entry, leaving, cost}
 use Rattle.modes.specs.Table.{row}
 use Rattle.modes.specs.Values.{listed}
 use Rattle.modes.specs.Results.{results}
 use Rattle.modes.proofs.Entries.{entry-flat}
 use Rattle.modes.proofs.Receiving.{length-results}
-use Rattle.calls.specs.Stretches.{passed, coming, inside}
-use Rattle.calls.specs.Calls.{Answer, Calls, gave, refused, fed, drained, order-of, way-of, taken, handed-out, stretch, count-before}
-use Rattle.calls.specs.Due.{distance-in, width-in, count-in, inside-in, cycles-passed, refusal-to-feed, refusal-to-drain, due-drain, Follows}
-use Rattle.calls.proofs.Stretching.{passed-is-cost, inside-most}
+use Rattle.calls.specs.Stretches.{passed, inside}
+use Rattle.calls.specs.Calls.{Answer, Calls, gave, refused, fed, drained, order-of, way-of, taken, handed-out, stretch}
+use Rattle.calls.specs.Due.{distance-in, width-in, count-in, inside-in, cycles-passed, refusal-to-feed, Follows}
+use Rattle.calls.proofs.Stretching.{passed-is-cost}
 use Rattle.calls.proofs.Accepted.{drain-gives}
 use Rattle.calls.proofs.OpenRun.{progress, balanced}
 use Rattle.runs.specs.declared.frame.Frame.{Frame}
-use Rattle.runs.specs.Rings.{items}
 use Rattle.runs.specs.Standing.{blocks, Same-engine}
 use Rattle.runs.specs.Stands.{Stands}
 use Rattle.runs.specs.Handing.{Answered, feed-refusal, Fed, Drained}

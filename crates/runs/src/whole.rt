@@ -46,14 +46,13 @@ fn feed_twice<E: Engine, W>(
 
 /// Closes the run behind two feeds, whatever they answered.
 fn finish<E: Engine, W: Drop>(
-    run: Run<E, W>,
+    mut run: Run<E, W>,
     first: &[u64],
     second: &[u64],
     out: &mut [u64],
 ) -> (Cartridge<E>, Result<u64, Refusal>)
     ensures { λ r. ⌜ Fed-twice (E·Engine .machine (run .engine)) (E·Engine .machine (r .0 .engine)) (run .frame) (r .0 .count) (now (first .entry)) (now (second .entry)) (now (out .entry)) (now (out .exit)) (r .1) ⌝ }
 {
-    let mut run = run;
     let answer = feed_twice(&mut run, first, second, out);
     (run.close(), answer)
 }
