@@ -1,21 +1,16 @@
 -- What a sending and a receiving run owe each other, by the theorem over lists of calls.
-use mathlib.Core.Path.{_≡_, refl, sym, ap, subst, _∙_}
+use mathlib.Core.Path.{refl, sym, ap, subst, _∙_}
 use mathlib.Core.Bool.{true}
-use mathlib.Core.List.{_∷_}
 use mathlib.Core.Logic.{inl}
-use Prim.Native.Nat.{ℕ}
-use lib.ListN.{drop}
 use Rattle.cipher.specs.Undoing.{Undo}
 use Rattle.engines.specs.Machines.{Machine}
-use Rattle.modes.specs.declared.way.Way.the-variants.{Enciphering, Deciphering}
 use Rattle.modes.specs.Laws.{Ends}
-use Rattle.calls.specs.Calls.{Calls, order-of, way-of}
+use Rattle.calls.specs.Calls.{Calls}
 use Rattle.calls.specs.Runs.{run-of, runs-of, Among}
-use Rattle.calls.specs.Theorem.{Pair, Theorem}
+use Rattle.calls.specs.Theorem.{Pair}
 use Rattle.calls.proofs.Counting.{newest-run}
 use Rattle.calls.proofs.Whole.{theorem}
 use Rattle.runs.specs.declared.frame.Frame.{Frame}
-use Rattle.runs.specs.Stands.{Stands}
 use Rattle.runs.specs.Ends.{One-cipher, Between}
 
 -- ciphers that are one forward are one inverse

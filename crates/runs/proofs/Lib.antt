@@ -1,3 +1,6 @@
+pub mod Between
+pub mod Emptying
+pub mod TwoFeeds
 pub mod RingPlaces
 pub mod Chains
 pub mod UnitsOut

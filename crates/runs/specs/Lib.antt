@@ -5,3 +5,5 @@ pub mod Standing
 pub mod Stands
 pub mod Handing
 pub mod Ends
+pub mod Whole
+pub mod Emptying

@@ -6,3 +6,4 @@ mod ring;
 pub mod run;
 #[cfg(test)]
 mod tests;
+pub mod whole;
