@@ -1,6 +1,3 @@
-pub mod Between
-pub mod Emptying
-pub mod TwoFeeds
 pub mod RingPlaces
 pub mod Chains
 pub mod UnitsOut
@@ -19,4 +16,6 @@ pub mod Numbers
 pub mod FeedReplies
 pub mod DrainReplies
 pub mod Starts
+pub mod Emptying
+pub mod TwoFeeds
 pub mod Between
