@@ -42,8 +42,9 @@ impl<E: Engine, W> Run<E, W> {
         ensures emptied { λ r. ⌜ of-run Idles (E·Engine .machine) (now (self .entry)) (now (self .exit)) (E·Engine .machine (now (self .entry) .engine) .depth - 1) 0 r (now (out .entry)) (now (out .exit)) ⌝ }
         ensures onward { λ r. ⌜ of-run Onward (E·Engine .machine) (now (self .entry)) (now (self .exit)) 0 r 0 ⌝ }
     {
+        let depth = self.engine.depth_of();
         let mut given = 0;
-        for _ in 1..self.engine.depth_of() {
+        for _ in 1..depth {
             given = self.pass(None, out, given);
         }
         given

@@ -22,7 +22,7 @@ impl<E: Engine, W> Run<E, W> {
         ensures value { λ r. ⌜ r ≡ now (self .entry) .frame .taken - length (items (now (self .entry) .frame .pending)) ⌝ }
         ensures due { λ r. ⌜ Tells (E·Engine .machine (now (self .entry) .engine)) (now (self .entry) .frame) (λ told. told .handed-out) r ⌝ }
     {
-        self.frame.taken.saturating_sub(self.frame.pending.len())
+        self.units_taken().saturating_sub(self.units_inside())
     }
 
     /// How many are in the engine: the blocks in its row.

@@ -1,3 +1,4 @@
+use borrow.Author.Needs.{needs}
 use native.Mathlib.Omega.{arith}
 use mathlib.Core.Path.{refl, ap, _∙_}
 use Rattle.modes.specs.Values.{listed}
@@ -12,9 +13,9 @@ returns g c =
     let fresh : Fresh _ (c .args .order) (g .W·Heading .heads) (c .args .self .count) =
     record { mode = c .mode .ensures .value; way = c .way-of .ensures; before = refl; taken = refl; inside = c .new .ensures; cycles = refl } in
     record {
-      started = started-by (mach was) (mach (c .clear .last .engine)) (c .args .self .count) (c .args .order) (g .W·Heading .heads) _
-          (omega (arith, g .E·Engine·met .places was)) (g .E·Engine·met .shallow was) (c .clear .ensures) fresh
+      started = started-by (mach was) _ (c .args .self .count) (c .args .order) (g .W·Heading .heads) _
+          (omega (arith, g .E·Engine·met .places was)) (g .E·Engine·met .shallow was) (search needs) fresh
           (c .first-links .ensures ∙ ap listed (c .initial-values .ensures .value));
       fresh = fresh;
-      engine = c .clear .ensures;
+      engine = search needs;
     }

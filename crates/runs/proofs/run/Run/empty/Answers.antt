@@ -38,7 +38,7 @@ returns g c =
     let run = c .args .self .now in
     let l = c .loop in
     let e : l .counter - 1 ≡ mach (run .engine) .depth - 1 =
-    omega (arith, c .loop-test .left, l .kept .counter, l .kept .counter-end, c .depth-of-end .ensures, g .E·Engine·met .places (run .engine)) in
+    omega (arith, c .loop-test .left, l .kept .counter, l .kept .counter-end, c .depth-of-depth .ensures, g .E·Engine·met .places (run .engine)) in
     record {
       emptied = subst (λ n. Idles (mach (run .engine)) (mach (l .self .engine)) (run .frame) (l .self .frame) n 0 (l .given) (c .args .out .now) (l .out)) e (l .inv .1);
       onward = l .inv .0;
