@@ -1,8 +1,10 @@
-/* Times the proved library in one run: triple DEA against OpenSSL's des-ede3, a block and setting up keys, and clocking a line against
-   three calls of single DEA. The best of several rounds counts. */
+/* Times the proved library in one run: triple DEA against OpenSSL's des-ede3, a block and setting up keys; clocking a line against three calls of
+   single DEA; and runs over the line, whose times come as arguments (a mode's name and tenths of a nanosecond a unit), against OpenSSL's modes.
+   The best of several rounds counts. */
 #include "exports.h"
 #include <openssl/evp.h>
 #include <stdio.h>
+#include <stdlib.h>
 #include <string.h>
 #include <time.h>
 
@@ -10,6 +12,7 @@ enum { BLOCKS = 1 << 17, ROUNDS = 9, SETUPS = 20000 };
 
 static const uint8_t KEYS[24] = {0x01, 0x23, 0x45, 0x67, 0x89, 0xAB, 0xCD, 0xEF, 0x23, 0x45, 0x67, 0x89,
                                  0xAB, 0xCD, 0xEF, 0x01, 0x45, 0x67, 0x89, 0xAB, 0xCD, 0xEF, 0x01, 0x23};
+static int chained;
 static uint64_t blocks[BLOCKS];
 static uint8_t bytes[8 * BLOCKS + 8];
 
@@ -31,7 +34,7 @@ static void theirs(int inverse, size_t n)
 {
     int len = 0;
     EVP_CIPHER_CTX *ctx = EVP_CIPHER_CTX_new();
-    EVP_CipherInit_ex(ctx, EVP_des_ede3_ecb(), NULL, KEYS, NULL, !inverse);
+    EVP_CipherInit_ex(ctx, chained ? EVP_des_ede3_cbc() : EVP_des_ede3_ecb(), NULL, KEYS, KEYS, !inverse);
     EVP_CIPHER_CTX_set_padding(ctx, 0);
     EVP_CipherUpdate(ctx, bytes, &len, bytes, (int)(8 * n));
     EVP_CIPHER_CTX_free(ctx);
@@ -75,11 +78,17 @@ static void compare(const char *what, double mine, const char *with, double othe
     printf("%-28s %9.1f ns   %-24s %9.1f ns   ratio %.2f\n", what, 1e9 * mine, with, 1e9 * other, mine / other);
 }
 
-int main(void)
+int main(int argc, char **argv)
 {
     compare("a block enciphered", least(ours, 0, BLOCKS, 1) / BLOCKS, "OpenSSL", least(theirs, 0, BLOCKS, 1) / BLOCKS);
     compare("a block deciphered", least(ours, 1, BLOCKS, 1) / BLOCKS, "OpenSSL", least(theirs, 1, BLOCKS, 1) / BLOCKS);
     compare("keys set up, and one block", least(ours, 0, 1, SETUPS), "OpenSSL", least(theirs, 0, 1, SETUPS));
     compare("a cycle of the line", least(line, 0, BLOCKS, 1) / BLOCKS, "three calls of DEA", least(three_calls, 0, BLOCKS, 1) / BLOCKS);
+    for (int i = 1; i + 1 < argc; i += 2) {
+        char what[64];
+        chained = strcmp(argv[i], "TECB") != 0;
+        snprintf(what, sizeof what, "a unit of a run, %s", argv[i]);
+        compare(what, 1e-10 * atof(argv[i + 1]), chained ? "OpenSSL, chained" : "OpenSSL", least(theirs, 0, BLOCKS, 1) / BLOCKS);
+    }
     return 0;
 }
