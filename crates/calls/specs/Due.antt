@@ -1,6 +1,6 @@
 -- What each call is due after the calls before it: a refusal, or the mode's results over all units that the run took, cut by the schedule.
 use mathlib.Core.Path.{_≡_}
-use mathlib.Core.Bool.{Bool, true, false, cond}
+use mathlib.Core.Bool.{Bool, true, cond}
 use mathlib.Core.List.{List, [], _∷_, _++_}
 use Prim.Native.Nat.{ℕ, _+_, _-_, _^_}
 use lib.Dec.{ltb}
@@ -33,7 +33,7 @@ count-in calls = count-before calls + length (taken calls)
 abbrev pub inside-in : ℕ → Calls true → ℕ
 inside-in D calls = inside D (distance-in calls) (stretch calls)
 
--- the results from place a to place b, where the run has taken the units us
+-- the results from place a on and before place b, where the run has taken the units us
 abbrev pub results-in : (ℕ → ℕ) → (ℕ → ℕ) → Calls true → List ℕ → ℕ → ℕ → List ℕ
 results-in F G calls us a b = drop a (results F G (order-of calls .mode) (way-of calls) (listed (order-of calls .values)) us b)
 

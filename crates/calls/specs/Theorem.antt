@@ -1,7 +1,7 @@
 -- What holds of every list of calls whose answers were due: a receiver's units are restored, it recovers, damage is contained, and the accounts
 -- are exact. The sender's engine has F, G and depth D, the receiver's F′, G′ and D′; places of a list count from 0.
 use mathlib.Core.Path.{_≡_}
-use mathlib.Core.Bool.{Bool, true, false}
+use mathlib.Core.Bool.{Bool, true}
 use mathlib.Core.List.{List}
 use Prim.Native.Nat.{ℕ, _+_, _-_, _<_, _≤_}
 use lib.Bits.{bitXor}

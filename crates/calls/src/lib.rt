@@ -6,7 +6,7 @@ ghost use Rattle.calls.specs.Theorem.{Theorem};
 /// The most units that one cartridge takes.
 pub const UNIT_LIMIT: usize = 1_048_576;
 
-/// The same, as proofs know it. It rests on the theorem, which says that no count passes it.
+/// The same, as proofs know it. Its contract also names the theorem over all lists of calls, by which no count passes it.
 pub fn limit() -> usize
     ensures value { λ r. ⌜ r ≡ unit-limit ⌝ }
     ensures theorem { λ _. ⌜ Theorem ⌝ }

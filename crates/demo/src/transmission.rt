@@ -42,7 +42,7 @@ impl Units {
     }
 }
 
-/// What a run tells, and its cartridge once the run is closed.
+/// What a run tells.
 #[derive(Clone, Copy)]
 pub struct Accounts {
     pub taken: usize,

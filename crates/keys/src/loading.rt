@@ -36,10 +36,10 @@ impl KeyBundle {
 }
 
 /// The length and the parity of key bytes.
-fn check(bytes: &[u8], length: usize) -> Result<(), Refusal>
-    ensures { λ r. ⌜ r ≡ checked length (now (bytes .entry)) ⌝ }
+fn check(bytes: &[u8], wanted: usize) -> Result<(), Refusal>
+    ensures { λ r. ⌜ r ≡ checked wanted (now (bytes .entry)) ⌝ }
 {
-    if bytes.len() != length {
+    if bytes.len() != wanted {
         return Err(Refusal::KeyLength(bytes.len()));
     }
     match first_even_byte(bytes) {

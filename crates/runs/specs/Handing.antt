@@ -18,7 +18,7 @@ use Rattle.calls.specs.Stretches.{passed}
 use Rattle.calls.specs.Calls.{Answer, gave, refused, Calls, fed, drained, order-of, way-of, taken, stretch}
 use Rattle.calls.specs.Due.{distance-in, refusal-to-feed, refusal-to-drain, due-feed, due-drain}
 use Rattle.runs.specs.declared.frame.Frame.{Frame}
-use Rattle.runs.specs.Rings.{items, one-if}
+use Rattle.runs.specs.Rings.{items}
 use Rattle.runs.specs.Views.{Kept}
 use Rattle.runs.specs.Steps.{unit-at}
 use Rattle.runs.specs.Standing.{Same-engine, Enters}
@@ -68,7 +68,7 @@ written xs n (Some x) = set xs n x
 
 -- a machine with another row
 abbrev pub holding : Machine → List (Option ℕ) → Machine
-holding mach row = record { forward = mach .forward; inverse = mach .inverse; depth = mach .depth; row = row }
+holding mach places = record { forward = mach .forward; inverse = mach .inverse; depth = mach .depth; row = places }
 
 -- the unit that is handed out for place i
 abbrev pub unit-in : Machine → Calls true → List ℕ → ℕ → ℕ

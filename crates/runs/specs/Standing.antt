@@ -48,7 +48,7 @@ pub record Sound (mach : Machine) (m : Mode) (ivs : List ℕ) : Type 0 where
   pub shallow : mach .depth ≤ greatest-depth
   pub begins : Begins m ivs
 
--- the run took the units us: base of them before this stretch, s in it, of which h are out, in t cycles of the stretch; passed cycles went before it
+-- the run took the units us: base of them before this stretch, s in it, of which h are out, in t cycles of the stretch; past cycles went before it
 pub record Standing (mach : Machine) (m : Mode) (way : Way) (ivs us : List ℕ) (base s h t past : ℕ) (v : View) : Type 0 where
   pub taken : v .taken ≡ base + s
   pub within : base + s ≤ length us

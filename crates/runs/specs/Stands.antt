@@ -43,7 +43,7 @@ pub record Stands (mach : Machine) (f : Frame) (calls : Calls true) : Type 0 whe
   pub at-work : At-work mach f calls (taken calls) (stretch calls) (out-in (mach .depth) calls)
       (passed (mach .depth) (distance-in calls) (stretch calls))
 
--- a cartridge stands for calls whose answers were due and whose last count it tells; its engine's row is free
+-- a cartridge stands for calls whose answers were due and whose last count it tells; its engine's row may hold anything
 pub record Rests (mach : Machine) (count : ℕ) (calls : Calls false) : Type 0 where
   pub follows : Follows (mach .forward) (mach .inverse) (mach .depth) calls
   pub tells : count ≡ count-told calls

@@ -7,7 +7,7 @@ use super::run::DecipheringRun;
 use super::run::EncipheringRun;
 use engines::engine::Engine;
 
-/// How many units the sender handed out that the receiver has not taken; none where it took more.
+/// How many more units the sender handed out than the receiver took; none where it took more.
 pub fn units_on_the_way<S: Engine, R: Engine>(
     sender: &EncipheringRun<S>,
     receiver: &DecipheringRun<R>,
