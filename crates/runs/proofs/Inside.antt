@@ -29,10 +29,6 @@ pub passed-early : (D : ℕ) (δ : Option ℕ) (s : ℕ) → passed D δ s ≤ e
 passed-early D δ zero = omega arith
 passed-early D δ (suc s) = rw (sym (add-one s)) (entry-next D δ s)
 
-pub passed-flat : (D s : ℕ) → passed D None s ≡ entry D None s
-passed-flat D zero = refl
-passed-flat D (suc s) = omega arith
-
 -- how many of s units are to come out from cycle t on, where the first h are out
 coming-is : (D : ℕ) (δ : Option ℕ) (t s h : ℕ) → h ≤ s → ((j : ℕ) → j < h → leaving D δ j < t) → ((j : ℕ) → h ≤ j → j < s → t ≤ leaving D δ j)
     → coming D δ t s ≡ s - h

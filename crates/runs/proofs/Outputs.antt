@@ -27,10 +27,6 @@ output-more y a n x xs ys e h ex =
     ∙ ap (λ z. M ++ z ∷ drop (n + 1) xs) ex
     ∙ sym (ap (λ zs. zs ++ drop (n + 1) xs) (map-counting-more y a n (a + n) refl) ∙ append-assoc M (y (a + n) ∷ []) (drop (n + 1) xs))
 
-pub length-output : (y : ℕ → ℕ) (a n : ℕ) (xs ys : List ℕ) → ys ≡ map y (counting a n) ++ drop n xs → n ≤ length xs → length ys ≡ length xs
-length-output y a n xs ys e h =
-    ap length e ∙ length-append (map y (counting a n)) (drop n xs) ∙ omega (arith, length-map-counting y a n, length-drop n xs)
-
 -- the units that are handed out from place a on are the results from there on
 pub units-are-results : (F G : ℕ → ℕ) (m : Mode) (way : Way) (ivs us : List ℕ) (a n b : ℕ) → length ivs ≡ row m .values → a + n ≡ b
     → map (unit-at F G m way ivs us) (counting a n) ≡ drop a (results F G m way ivs us b)

@@ -22,7 +22,7 @@ use Rattle.runs.specs.Views.{view}
 use Rattle.runs.specs.Stands.{out-in, At-work}
 use Rattle.runs.specs.Handing.{holding, Handing, Idles, Waits}
 use Rattle.runs.proofs.Turns.{pending-size}
-use Rattle.runs.proofs.Inside.{passed-early, passed-flat, all-out, waits, has-come}
+use Rattle.runs.proofs.Inside.{passed-early, all-out, waits, has-come}
 
 -- the run's distance is that of the calls
 pub distance-is-in : (mach : Machine) (f : Frame) (calls : Calls true) (us : List ℕ) (s h t : ℕ) → At-work mach f calls us s h t
@@ -41,15 +41,6 @@ Early mach f n given ys =
 
 pub early-first : (mach : Machine) (f : Frame) (given : ℕ) (ys : List ℕ) → Early mach f 0 given ys
 early-first mach f given ys = λ calls us xs s p. omega (arith, passed-early (mach .depth) (distance-in calls) s)
-
--- without a distance there is none
-pub waits-none : (mach : Machine) (f : Frame) (given : ℕ) (ys : List ℕ) → distanceOf (f .mode) (f .way) ≡ None → Waits mach mach f f given given ys ys
-waits-none mach f given ys e = λ calls us xs s p.
-    let none : distance-in calls ≡ None = sym (distance-is-in mach f calls us s _ _ (p .at-work)) ∙ e in
-    let now : passed (mach .depth) (distance-in calls) s ≡ entry (mach .depth) (distance-in calls) s = rw none (passed-flat (mach .depth) s) in (
-      subst (λ t. Handing mach f calls us s given t xs ys) now p,
-      λ d q. let z : _≡_ {A = ℕ} 0 1 = cc in absurd (omega arith),
-    )
 
 module _ (mach : Machine) (places : List (Option ℕ)) (f : Frame) (calls : Calls true) (us xs ys : List ℕ) (s given n : ℕ)
     (p : Handing (holding mach places) f calls us s given (passed (mach .depth) (distance-in calls) s + n) xs ys)

@@ -6,7 +6,7 @@ use Rattle.modes.specs.Table.{distanceOf}
 use Rattle.runs.specs.Handing.{Idles}
 use Rattle.runs.proofs.Onwards.{onward-none, onward-then}
 use Rattle.runs.proofs.Passes.{idles-none, idles-more}
-use Rattle.runs.proofs.Waits.{Early, early-first, early-more, waits-none, waits-partner, waits-all}
+use Rattle.runs.proofs.Waits.{Early, early-first, early-more, waits-partner, waits-all}
 use Rattle.runs.proofs.run.Run.wait.Needs as need
 
 pub loop-holds : need.loop-holds
