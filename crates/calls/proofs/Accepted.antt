@@ -1,19 +1,11 @@
 -- What an answer with units tells of its call.
-use mathlib.Core.Path.{_≡_, refl}
-use mathlib.Core.Bool.{Bool, true, false, cond}
-use mathlib.Core.List.{List, [], _∷_}
-use Prim.Native.Nat.{ℕ, zero, suc, _+_, _^_, _≤_}
-use native.Mathlib.Omega.{arith}
-use lib.Dec.{ltb}
-use lib.ListN.{length}
-use Rattle·std.proofs.shelf.Tests.{ltb-true, ltb-false}
-use Rattle·std.specs.declared.option.Option.{Option}
-use Rattle·std.specs.declared.option.Option.the-variants.{Some, None}
-use Rattle·refusals.specs.declared.Refusal.{Refusal}
-use Rattle·modes.specs.Values.{Units}
-use Rattle·calls·specs.Limits.{unit-limit}
-use Rattle·calls·specs.Calls.{gave, refused}
-use Rattle·calls·specs.Due.{first-wide, refusal-to-feed, refusal-to-drain}
+use Rattle.std.proofs.Common.{◌≡◌, ℕ, zero, suc, ◌+◌, ◌^◌, ◌≤◌, Bool, true, false, cond, ltb, List, [], ◌∷◌, length, Some, None, Option, refl, arith}
+use Rattle.std.proofs.lemmas.Bool.{ltb-true, ltb-false}
+use Rattle.refusals.specs.declared.Refusal.{Refusal}
+use Rattle.modes.specs.Values.{Units}
+use Rattle.calls.specs.Limits.{unit-limit}
+use Rattle.calls.specs.Calls.{gave, refused}
+use Rattle.calls.specs.Due.{first-wide, refusal-to-feed, refusal-to-drain}
 
 -- units among which no wide one is found
 pub none-wide : (w i : ℕ) (us : List ℕ) → first-wide w i us ≡ None → Units w us
@@ -24,7 +16,7 @@ none-wide w i (u ∷ us) e = narrow (ltb u (2 ^ w)) refl e (none-wide w (i + 1) 
         → Units w (u ∷ us)
     narrow true is e rest zero l = ltb-true u (2 ^ w) is
     narrow true is e rest (suc k) l = rest e k (omega arith)
-    narrow false is e rest k l = let z : _≡_ {A = ℕ} 0 1 = cc in absurd (omega arith)
+    narrow false is e rest k l = let z : ◌≡◌ {A = ℕ} 0 1 = cc in absurd (omega arith)
 
 -- a feed that was not refused
 pub record Accepted (width count : ℕ) (us hs due : List ℕ) : Type 0 where
@@ -36,19 +28,19 @@ pub feed-accepted : (in-engine width count : ℕ) (us : List ℕ) (room : ℕ) (
     → gave hs ≡ refusal-to-feed in-engine width count us room (gave due) → Accepted width count us hs due
 feed-accepted in-engine width count us room hs due e =
     let p = passes (ltb room (in-engine + length us)) (first-wide width 0 us) (ltb unit-limit (count + length us)) _ _ _ e in
-    record { narrow = none-wide width 0 us (p .0); few = ltb-false _ _ (p .1); gives = p .2 }
+    record { narrow = none-wide width 0 us p.0; few = ltb-false _ _ p.1; gives = p.2 }
   where
     passes : (small : Bool) (wide : Option ℕ) (many : Bool) (a b : Refusal) (at : ℕ → Refusal)
         → gave hs ≡ cond small (refused a) (elim wide [ Some i ↦ refused (at i) | None ↦ cond many (refused b) (gave due) ])
         → (wide ≡ None) × (many ≡ false) × (hs ≡ due)
-    passes true wide many a b at e = let z : _≡_ {A = ℕ} 0 1 = cc in absurd (omega arith)
-    passes false (Some i) many a b at e = let z : _≡_ {A = ℕ} 0 1 = cc in absurd (omega arith)
-    passes false None true a b at e = let z : _≡_ {A = ℕ} 0 1 = cc in absurd (omega arith)
+    passes true wide many a b at e = let z : ◌≡◌ {A = ℕ} 0 1 = cc in absurd (omega arith)
+    passes false (Some i) many a b at e = let z : ◌≡◌ {A = ℕ} 0 1 = cc in absurd (omega arith)
+    passes false None true a b at e = let z : ◌≡◌ {A = ℕ} 0 1 = cc in absurd (omega arith)
     passes false None false a b at e = (refl, refl, cc)
 
 pub drain-gives : (in-engine room : ℕ) (hs due : List ℕ) → gave hs ≡ refusal-to-drain in-engine room (gave due) → hs ≡ due
 drain-gives in-engine room hs due e = passes (ltb room in-engine) _ e
   where
     passes : (small : Bool) (a : Refusal) → gave hs ≡ cond small (refused a) (gave due) → hs ≡ due
-    passes true a e = let z : _≡_ {A = ℕ} 0 1 = cc in absurd (omega arith)
+    passes true a e = let z : ◌≡◌ {A = ℕ} 0 1 = cc in absurd (omega arith)
     passes false a e = cc

@@ -1,69 +1,63 @@
 -- What holds of each run, closed or open, of a list of calls whose answers were due.
-use mathlib.Core.Path.{_≡_, sym, ap, subst, _∙_}
-use mathlib.Core.Bool.{Bool, true}
-use mathlib.Core.List.{List, [], _∷_}
-use mathlib.Core.Logic.{inr, ⊎-elim}
-use Prim.Native.Nat.{ℕ, _-_, _<_, _≤_}
-use native.Mathlib.Omega.{arith}
-use lib.ListN.{length, getD, drop}
-use Rattle·std.proofs.shelf.Lists.{getD-take}
-use Rattle·modes.specs.declared.way.Way.{Way}
-use Rattle·modes.specs.declared.mode.Mode.{Mode}
-use Rattle·modes.specs.Table.{row}
-use Rattle·modes.specs.Values.{listed, Units, Begins}
-use Rattle·modes.specs.Results.{results}
-use Rattle·modes.proofs.Openings.{suits-begins}
-use Rattle·modes.proofs.Receiving.{take-results}
-use Rattle·calls·specs.Calls.{Calls, new, started, fed, drained, closed, order-of, taken, handed-out}
-use Rattle·calls·specs.Due.{inside-in, results-in, Follows}
-use Rattle·calls·specs.Runs.{Run, run-of, runs-of, Among}
-use Rattle·calls·proofs.OpenRun.{progress, balanced}
+use Rattle.std.proofs.Common.{◌≡◌, ℕ, ◌-◌, ◌<◌, ◌≤◌, Bool, true, List, [], ◌∷◌, length, get_or, drop, sym, ap, ◌∙◌, subst, inr, ⊎_elim, arith}
+use Rattle.std.proofs.lemmas.List.{get_or-take}
+use Rattle.modes.specs.declared.way.Way.{Way}
+use Rattle.modes.specs.declared.mode.Mode.{Mode}
+use Rattle.modes.specs.Table.{row}
+use Rattle.modes.specs.Values.{listed, Units, Begins}
+use Rattle.modes.specs.Results.{results}
+use Rattle.modes.proofs.Openings.{suits-begins}
+use Rattle.modes.proofs.Receiving.{take-results}
+use Rattle.calls.specs.Calls.{Calls, new, started, fed, drained, closed, order-of, taken, handed_out}
+use Rattle.calls.specs.Due.{inside-in, results-in, Follows}
+use Rattle.calls.specs.Runs.{Run, run_of, runs_of, Among}
+use Rattle.calls.proofs.OpenRun.{progress, balanced}
 
 -- hs is what a mode makes of the first of the units us
 pub record Front (F G : ℕ → ℕ) (m : Mode) (way : Way) (ivs us hs : List ℕ) : Type 0 where
   pub begins : Begins m ivs
-  pub narrow : Units (row m .width) us
+  pub narrow : Units (row m).width us
   pub few : length hs ≤ length us
   pub first : hs ≡ results F G m way ivs us (length hs)
 
 -- and so agrees with what it makes of all
-pub front-at : (F G : ℕ → ℕ) (m : Mode) (way : Way) (ivs us hs : List ℕ) → Front F G m way ivs us hs
-    → (i : ℕ) → i < length hs → getD hs i 0 ≡ getD (results F G m way ivs us (length us)) i 0
-front-at F G m way ivs us hs f i l =
-    ap (λ xs. getD xs i 0) (f .first ∙ sym (take-results F G m way ivs us (length hs) (length us) (f .few)))
-    ∙ getD-take (length hs) (results F G m way ivs us (length us)) i 0 l
+pub front_at : (F G : ℕ → ℕ) (m : Mode) (way : Way) (ivs us hs : List ℕ) → Front F G m way ivs us hs
+    → (i : ℕ) → i < length hs → get_or hs i 0 ≡ get_or (results F G m way ivs us (length us)) i 0
+front_at F G m way ivs us hs f i l =
+    ap (λ xs. get_or xs i 0) (f.first ∙ sym (take-results F G m way ivs us (length hs) (length us) f.few))
+    ∙ get_or-take (length hs) (results F G m way ivs us (length us)) i 0 l
 
 -- what a run handed out is made of the first units that it took
 abbrev pub Made : (ℕ → ℕ) → (ℕ → ℕ) → Run → Type 0
-Made F G run = Front F G (run .order .mode) (run .way) (listed (run .order .values)) (run .taken) (run .handed-out)
+Made F G run = Front F G run.order.mode run.way (listed run.order.values) run.taken run.handed_out
 
 among-earlier : (run : Run) (runs : List Run) → Among run (drop 1 runs) → Among run runs
 among-earlier run [] a = a
 among-earlier run (r ∷ runs) a = inr a
 
 module _ (F G : ℕ → ℕ) (D : ℕ) where
-  pub open-run : (calls : Calls true) → Follows F G D calls → Made F G (run-of calls)
+  pub open-run : (calls : Calls true) → Follows F G D calls → Made F G (run_of calls)
   open-run calls f =
       let p = progress F G D calls f in
       let balance = balanced F G D calls f in
-      let out : length (taken calls) - inside-in D calls ≡ length (handed-out calls) = omega arith in
+      let out : length (taken calls) - inside-in D calls ≡ length (handed_out calls) = omega arith in
       record {
-        begins = suits-begins (order-of calls .mode) (order-of calls .values) (order-of calls .suited);
-        narrow = p .narrow;
+        begins = suits-begins (order-of calls).mode (order-of calls).values (order-of calls).suited;
+        narrow = p.narrow;
         few = omega arith;
-        first = p .front ∙ ap (results-in F G calls (taken calls) 0) out;
+        first = p.front ∙ ap (results-in F G calls (taken calls) 0) out;
       }
 
-  pub each-run : {b : Bool} (calls : Calls b) → Follows F G D calls → (run : Run) → Among run (runs-of calls) → Made F G run
+  pub each-run : {b : Bool} (calls : Calls b) → Follows F G D calls → (run : Run) → Among run (runs_of calls) → Made F G run
   each-run new f run a = absurd a
   each-run (started o way calls) f run a =
-      ⊎-elim (λ e. subst (Made F G) (sym e) (open-run (started o way calls) f)) (each-run calls f run) a
+      ⊎_elim (λ e. subst (Made F G) (sym e) (open-run (started o way calls) f)) (each-run calls f run) a
   each-run (fed us room b calls) f run a =
-      ⊎-elim
+      ⊎_elim
       (λ e. subst (Made F G) (sym e) (open-run (fed us room b calls) f))
-      (λ q. each-run calls (f .1) run (among-earlier run (runs-of calls) q)) a
+      (λ q. each-run calls f.1 run (among-earlier run (runs_of calls) q)) a
   each-run (drained room b calls) f run a =
-      ⊎-elim
+      ⊎_elim
       (λ e. subst (Made F G) (sym e) (open-run (drained room b calls) f))
-      (λ q. each-run calls (f .1) run (among-earlier run (runs-of calls) q)) a
-  each-run (closed told calls) f run a = each-run calls (f .1) run a
+      (λ q. each-run calls f.1 run (among-earlier run (runs_of calls) q)) a
+  each-run (closed told calls) f run a = each-run calls f.1 run a

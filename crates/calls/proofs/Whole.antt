@@ -1,20 +1,18 @@
 -- The theorem over lists of calls.
-use mathlib.Core.Path.{refl, sym, subst}
-use mathlib.Core.Bool.{true}
-use Prim.Native.Nat.{ℕ}
-use Rattle·calls·specs.Calls.{Calls}
-use Rattle·calls·specs.Due.{due-told, Follows}
-use Rattle·calls·specs.Theorem.{Exact, Theorem}
-use Rattle·calls·proofs.OpenRun.{balanced}
-use Rattle·calls·proofs.Counting.{cycles-add-up, count-is-sum, count-within}
-use Rattle·calls·proofs.Pairs.{restored, recovered, contained}
+use Rattle.std.proofs.Common.{ℕ, true, sym, refl, subst}
+use Rattle.calls.specs.Calls.{Calls}
+use Rattle.calls.specs.Due.{due-told, Follows}
+use Rattle.calls.specs.Theorem.{Exact, Theorem}
+use Rattle.calls.proofs.OpenRun.{balanced}
+use Rattle.calls.proofs.Counting.{cycles-add-up, count-is-sum, count-within}
+use Rattle.calls.proofs.Pairs.{restored, recovered, contained}
 
 -- the accounts of what a closing is due
 pub accounts-due : (F G : ℕ → ℕ) (D : ℕ) (calls : Calls true) → Follows F G D calls → Exact D calls (due-told D calls)
 accounts-due F G D calls f =
     record {
       taken = refl;
-      handed-out = refl;
+      handed_out = refl;
       inside = refl;
       balance = balanced F G D calls f;
       cycles = cycles-add-up D calls;
@@ -28,5 +26,5 @@ theorem =
       restoring = restored;
       recovery = recovered;
       damage = contained;
-      accounts = λ F G D deep calls told f. subst (Exact D calls) (sym (f .0)) (accounts-due F G D calls (f .1));
+      accounts = λ F G D deep calls told f. subst (Exact D calls) (sym f.0) (accounts-due F G D calls f.1);
     }

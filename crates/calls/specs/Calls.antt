@@ -1,12 +1,9 @@
 -- The calls on one cartridge, new at the first: what was asked, and what was answered or told. The newest call stands outermost.
 -- The index says whether a run is open: a start stands only where none is, the others only in one.
-use mathlib.Core.Bool.{Bool, true, false}
-use mathlib.Core.List.{List, [], _∷_, _++_}
-use Prim.Native.Nat.{ℕ, _+_}
-use lib.ListN.{length}
-use Rattle·refusals.specs.declared.Refusal.{Refusal}
-use Rattle·modes.specs.declared.way.Way.{Way}
-use Rattle·modes.specs.declared.order.Order.{Order}
+use Rattle.std.specs.Prelude.{ℕ, ◌+◌, Bool, true, false, List, [], ◌∷◌, ◌++◌, length}
+use Rattle.refusals.specs.declared.Refusal.{Refusal}
+use Rattle.modes.specs.declared.way.Way.{Way}
+use Rattle.modes.specs.declared.order.Order.{Order}
 
 -- units handed out, or a refusal
 pub data Answer : Type 0 where
@@ -16,10 +13,10 @@ pub data Answer : Type 0 where
 -- what a closing finds: the numbers that the run tells, the blocks counted in its engine's row, and the count that the cartridge tells then
 pub record Told : Type 0 where
   pub taken : ℕ
-  pub handed-out : ℕ
+  pub handed_out : ℕ
   pub inside : ℕ
   pub cycles : ℕ
-  pub in-row : ℕ
+  pub in_row : ℕ
   pub count : ℕ
 
 -- a start with its order and way; a feed with its units, the length of its output list and its answer; a drain likewise; a closing
@@ -37,10 +34,10 @@ order-of (started o way calls) = o
 order-of (fed us room a calls) = order-of calls
 order-of (drained room a calls) = order-of calls
 
-abbrev pub way-of : Calls true → Way
-way-of (started o way calls) = way
-way-of (fed us room a calls) = way-of calls
-way-of (drained room a calls) = way-of calls
+abbrev pub way_of : Calls true → Way
+way_of (started o way calls) = way
+way_of (fed us room a calls) = way_of calls
+way_of (drained room a calls) = way_of calls
 
 -- the units of its feeds that were not refused
 abbrev pub taken : Calls true → List ℕ
@@ -50,12 +47,12 @@ taken (fed us room (refused e) calls) = taken calls
 taken (drained room a calls) = taken calls
 
 -- the units that its feeds and drains gave
-abbrev pub handed-out : Calls true → List ℕ
-handed-out (started o way calls) = []
-handed-out (fed us room (gave hs) calls) = handed-out calls ++ hs
-handed-out (fed us room (refused e) calls) = handed-out calls
-handed-out (drained room (gave hs) calls) = handed-out calls ++ hs
-handed-out (drained room (refused e) calls) = handed-out calls
+abbrev pub handed_out : Calls true → List ℕ
+handed_out (started o way calls) = []
+handed_out (fed us room (gave hs) calls) = handed_out calls ++ hs
+handed_out (fed us room (refused e) calls) = handed_out calls
+handed_out (drained room (gave hs) calls) = handed_out calls ++ hs
+handed_out (drained room (refused e) calls) = handed_out calls
 
 -- how many units the stretch has that is not ended: a drain that found something ends one
 abbrev pub stretch : Calls true → ℕ
@@ -77,7 +74,7 @@ ended (drained room (refused e) calls) = ended calls
 -- what the cartridge told last, and so what its count was as the run started
 abbrev pub count-told : Calls false → ℕ
 count-told new = 0
-count-told (closed told calls) = told .count
+count-told (closed told calls) = told.count
 
 abbrev pub count-before : Calls true → ℕ
 count-before (started o way calls) = count-told calls

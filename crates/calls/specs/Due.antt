@@ -1,31 +1,24 @@
 -- What each call is due after the calls before it: a refusal, or the mode's results over all units that the run took, cut by the schedule.
-use mathlib.Core.Path.{_≡_}
-use mathlib.Core.Bool.{Bool, true, cond}
-use mathlib.Core.List.{List, [], _∷_, _++_}
-use Prim.Native.Nat.{ℕ, _+_, _-_, _^_}
-use lib.Dec.{ltb}
-use lib.ListN.{length, drop}
-use Rattle·std.specs.declared.option.Option.{Option}
-use Rattle·std.specs.declared.option.Option.the-variants.{Some, None}
-use Rattle·refusals.specs.declared.Refusal.the-variants.{OutputLength, UnitWidth, UnitLimit}
-use Rattle·modes.specs.Table.{row, distanceOf}
-use Rattle·modes.specs.Values.{listed}
-use Rattle·modes.specs.Results.{results}
-use Rattle·calls·specs.Limits.{unit-limit}
-use Rattle·calls·specs.Stretches.{passed, inside}
-use Rattle·calls·specs.Calls.{Answer, gave, refused, Told, Calls, new, started, fed, drained, closed, order-of, way-of, taken, handed-out, stretch, count-before}
+use Rattle.std.specs.Prelude.{◌≡◌, ℕ, ◌+◌, ◌-◌, ◌^◌, Bool, true, cond, List, [], ◌∷◌, ◌++◌, length, drop, Some, None, Option, nat_lt}
+use Rattle.refusals.specs.declared.Refusal.TheVariants.{OutputLength, UnitWidth, UnitLimit}
+use Rattle.modes.specs.Table.{row, distance_of}
+use Rattle.modes.specs.Values.{listed}
+use Rattle.modes.specs.Results.{results}
+use Rattle.calls.specs.Limits.{unit-limit}
+use Rattle.calls.specs.Stretches.{passed, inside}
+use Rattle.calls.specs.Calls.{Answer, gave, refused, Told, Calls, new, started, fed, drained, closed, order-of, way_of, taken, handed_out, stretch, count-before}
 
 -- the index of the first unit of 2 ^ w or more, where the first of the list has index i
 abbrev pub first-wide : ℕ → ℕ → List ℕ → Option ℕ
 first-wide w i [] = None
-first-wide w i (u ∷ us) = cond (ltb u (2 ^ w)) (first-wide w (i + 1) us) (Some i)
+first-wide w i (u ∷ us) = cond (nat_lt u (2 ^ w)) (first-wide w (i + 1) us) (Some i)
 
 -- the distance of the open run, its width, its count now, and how many units are in the engine
 abbrev pub distance-in : Calls true → Option ℕ
-distance-in calls = distanceOf (order-of calls .mode) (way-of calls)
+distance-in calls = distance_of (order-of calls).mode (way_of calls)
 
 abbrev pub width-in : Calls true → ℕ
-width-in calls = row (order-of calls .mode) .width
+width-in calls = (row (order-of calls).mode).width
 
 abbrev pub count-in : Calls true → ℕ
 count-in calls = count-before calls + length (taken calls)
@@ -35,19 +28,19 @@ inside-in D calls = inside D (distance-in calls) (stretch calls)
 
 -- the results from place a on and before place b, where the run has taken the units us
 abbrev pub results-in : (ℕ → ℕ) → (ℕ → ℕ) → Calls true → List ℕ → ℕ → ℕ → List ℕ
-results-in F G calls us a b = drop a (results F G (order-of calls .mode) (way-of calls) (listed (order-of calls .values)) us b)
+results-in F G calls us a b = drop a (results F G (order-of calls).mode (way_of calls) (listed (order-of calls).values) us b)
 
 -- refused, in this order, for too little room, a unit that is too wide, or more units than the cartridge still takes
 abbrev pub refusal-to-feed : ℕ → ℕ → ℕ → List ℕ → ℕ → Answer → Answer
 refusal-to-feed in-engine width count us room otherwise =
-    cond (ltb room (in-engine + length us)) (refused (OutputLength (in-engine + length us)))
+    cond (nat_lt room (in-engine + length us)) (refused (OutputLength (in-engine + length us)))
     (elim (first-wide width 0 us) [
       | Some i ↦ refused (UnitWidth i)
-      | None ↦ cond (ltb unit-limit (count + length us)) (refused (UnitLimit (unit-limit - count))) otherwise
+      | None ↦ cond (nat_lt unit-limit (count + length us)) (refused (UnitLimit (unit-limit - count))) otherwise
     ])
 
 abbrev pub refusal-to-drain : ℕ → ℕ → Answer → Answer
-refusal-to-drain in-engine room otherwise = cond (ltb room in-engine) (refused (OutputLength in-engine)) otherwise
+refusal-to-drain in-engine room otherwise = cond (nat_lt room in-engine) (refused (OutputLength in-engine)) otherwise
 
 -- a feed hands out what comes out until its last unit enters
 abbrev pub due-feed : (ℕ → ℕ) → (ℕ → ℕ) → ℕ → Calls true → List ℕ → ℕ → Answer
@@ -76,10 +69,10 @@ abbrev pub due-told : ℕ → Calls true → Told
 due-told D calls =
     record {
       taken = length (taken calls);
-      handed-out = length (handed-out calls);
+      handed_out = length (handed_out calls);
       inside = inside-in D calls;
       cycles = cycles-passed D calls;
-      in-row = inside-in D calls;
+      in_row = inside-in D calls;
       count = count-in calls;
     }
 

@@ -1,5 +1,5 @@
 -- The most units that one cartridge takes.
-use Prim.Native.Nat.{ℕ}
+use Rattle.std.specs.Prelude.{ℕ}
 
 abbrev pub unit-limit : ℕ
 unit-limit = 1048576

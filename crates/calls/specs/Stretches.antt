@@ -1,10 +1,6 @@
 -- A stretch: units that enter an engine one after the other, with no drain between them. D is the engine's depth, δ the distance or none.
-use mathlib.Core.Bool.{cond}
-use mathlib.Core.List.{List, [], _∷_}
-use Prim.Native.Nat.{ℕ, zero, suc, _+_}
-use lib.Dec.{leb}
-use Rattle·std.specs.declared.option.Option.{Option}
-use Rattle·modes.specs.Schedule.{entry, leaving, cost, drained}
+use Rattle.std.specs.Prelude.{ℕ, zero, suc, ◌+◌, cond, List, [], ◌∷◌, Option, nat_le}
+use Rattle.modes.specs.Schedule.{entry, leaving, cost, drained}
 
 -- how many cycles have passed as the last of s units has entered
 abbrev pub passed : ℕ → Option ℕ → ℕ → ℕ
@@ -14,7 +10,7 @@ passed D δ (suc j) = entry D δ j + 1
 -- how many of the first s units come out in cycle t or later
 abbrev pub coming : ℕ → Option ℕ → ℕ → ℕ → ℕ
 coming D δ t zero = 0
-coming D δ t (suc j) = coming D δ t j + cond (leb t (leaving D δ j)) 1 0
+coming D δ t (suc j) = coming D δ t j + cond (nat_le t (leaving D δ j)) 1 0
 
 -- how many are in the engine as the last of s units has entered
 abbrev pub inside : ℕ → Option ℕ → ℕ → ℕ

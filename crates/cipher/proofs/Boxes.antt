@@ -1,21 +1,16 @@
 -- Laws of the S boxes.
-use mathlib.Core.Path.{_≡_, refl, sym, ap, ap₂, _∙_}
-use Prim.Native.Nat.{ℕ, _+_, _-_, _*_, _/_, _%_, _^_, _<_}
-use native.Mathlib.Numerals.{add-one}
-use native.Mathlib.Omega.{arith}
-use lib.Dec.{ltb, eqb}
-use lib.Pow.{shr-shr}
-use Rattle·std.proofs.shelf.Tests.{ltb-true, eqb-true}
-use Rattle·cipher·specs.Tables.{s-table}
-use Rattle·cipher·specs.Rounds.{s-box, substituted}
-use Rattle·cipher·specs.Rows.{times, row, Each-once}
-use Rattle·cipher·proofs.Tests.{entry-at, pair-at}
+use Rattle.std.proofs.Common.{◌≡◌, ℕ, ◌+◌, ◌-◌, ◌*◌, ◌/◌, ◌%◌, ◌^◌, ◌<◌, eqb, ltb, sym, refl, ap, ◌∙◌, ap₂, add-one, arith, shr-shr}
+use Rattle.std.proofs.lemmas.Bool.{ltb-true, eqb-true}
+use Rattle.cipher.specs.Tables.{s-table}
+use Rattle.cipher.specs.Rounds.{s-box, substituted}
+use Rattle.cipher.specs.Rows.{times, row, Each-once}
+use Rattle.cipher.proofs.Tests.{entry_at, pair-at}
 
 pub s-box-lt : (i six : ℕ) → s-box i six < 16
 unfolding s-box
 s-box-lt i six =
     ltb-true (s-box i six) 16
-    (entry-at (λ x. ltb x 16) 0 refl s-table refl (i * 64 + (six / 32 * 2 + six % 2) * 16 + six / 2 % 16))
+    (entry_at (λ x. ltb x 16) 0 refl s-table refl (i * 64 + (six / 32 * 2 + six % 2) * 16 + six / 2 % 16))
 
 -- one box more
 pub substituted-more : (i x : ℕ) → i < 8

@@ -1,8 +1,5 @@
-pub mod InRow
 pub mod Tests
 pub mod Filled
-pub mod Selects
-pub mod Feistel
 pub mod Boxes
 pub mod Rotations
 pub mod Linear

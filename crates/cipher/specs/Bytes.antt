@@ -1,10 +1,8 @@
 -- Blocks in bytes.
-use mathlib.Core.List.{List}
-use Prim.Native.Nat.{ℕ, _+_, _*_, _^_}
-use lib.ListN.{getD}
+use Rattle.std.specs.Prelude.{ℕ, ◌+◌, ◌*◌, ◌^◌, List, slice_index}
 
 -- the block whose eight bytes stand from place p on, the highest first
-abbrev pub block-at : List ℕ → ℕ → ℕ
-block-at bs p =
-    getD bs p 0 * 2 ^ 56 + getD bs (p + 1) 0 * 2 ^ 48 + getD bs (p + 2) 0 * 2 ^ 40 + getD bs (p + 3) 0 * 2 ^ 32
-    + getD bs (p + 4) 0 * 2 ^ 24 + getD bs (p + 5) 0 * 2 ^ 16 + getD bs (p + 6) 0 * 2 ^ 8 + getD bs (p + 7) 0
+abbrev pub block_at : List ℕ → ℕ → ℕ
+block_at bs p =
+    slice_index bs p * 2 ^ 56 + slice_index bs (p + 1) * 2 ^ 48 + slice_index bs (p + 2) * 2 ^ 40 + slice_index bs (p + 3) * 2 ^ 32
+    + slice_index bs (p + 4) * 2 ^ 24 + slice_index bs (p + 5) * 2 ^ 16 + slice_index bs (p + 6) * 2 ^ 8 + slice_index bs (p + 7)

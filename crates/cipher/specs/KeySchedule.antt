@@ -1,8 +1,7 @@
 -- The sixteen round keys of a key: PC-1, then a left rotation and PC-2 for each.
-use mathlib.Core.List.{List, [], _∷_}
-use Prim.Native.Nat.{ℕ, _+_, _-_, _*_, _/_, _%_, _^_}
-use Rattle·cipher·specs.Words.{select}
-use Rattle·cipher·specs.Tables.{pc1-table, pc2-table, rotation-table}
+use Rattle.std.specs.Prelude.{ℕ, ◌+◌, ◌-◌, ◌*◌, ◌/◌, ◌%◌, ◌^◌, List, [], ◌∷◌}
+use Rattle.cipher.specs.Words.{select}
+use Rattle.cipher.specs.Tables.{pc1-table, pc2-table, rotation-table}
 
 -- C and D of a key, 28 bits each
 unfoldable pub pc1 : ℕ → ℕ × ℕ

@@ -11,3 +11,6 @@ pub mod Rows
 pub mod WorkedValues
 pub mod Exchanges
 pub mod Combined
+pub mod InRow
+pub mod Feistel
+pub mod Selects

@@ -1,10 +1,7 @@
 -- Enciphering a block: IP, sixteen rounds, the halves crossed, the inverse of IP.
-use mathlib.Core.List.{List, [], _∷_}
-use Prim.Native.Nat.{ℕ, zero, suc, _+_, _*_, _/_, _%_, _^_}
-use lib.Bits.{bitXor}
-use lib.ListN.{getD}
-use Rattle·cipher·specs.Words.{select}
-use Rattle·cipher·specs.Tables.{ip-table, ip-inverse-table, e-table, s-table, p-table}
+use Rattle.std.specs.Prelude.{ℕ, zero, suc, ◌+◌, ◌*◌, ◌/◌, ◌%◌, ◌^◌, List, [], ◌∷◌, bit_xor, slice_index}
+use Rattle.cipher.specs.Words.{select}
+use Rattle.cipher.specs.Tables.{ip-table, ip-inverse-table, e-table, s-table, p-table}
 
 unfoldable pub ip : ℕ → ℕ
 ip b = select 64 ip-table b
@@ -18,7 +15,7 @@ expanded r = select 32 e-table r
 
 -- S box i, from 0, at six bits: the first and the last name the row, the middle four the column
 unfoldable pub s-box : ℕ → ℕ → ℕ
-s-box i six = getD s-table (i * 64 + (six / 32 * 2 + six % 2) * 16 + six / 2 % 16) 0
+s-box i six = slice_index s-table (i * 64 + (six / 32 * 2 + six % 2) * 16 + six / 2 % 16)
 
 -- the first n boxes, at six bits each: four bits of each, side by side
 unfoldable pub substituted : ℕ → ℕ → ℕ
@@ -31,11 +28,11 @@ permuted x = select 32 p-table x
 
 -- f(R, K)
 unfoldable pub f : ℕ → ℕ → ℕ
-f r k = permuted (substituted 8 (bitXor (expanded r) k))
+f r k = permuted (substituted 8 (bit_xor (expanded r) k))
 
--- one round: L′ = R, R′ = L ⊕ f(R, K)
+-- one round: L' = R, R' = L ⊕ f(R, K)
 abbrev pub round : ℕ → ℕ × ℕ → ℕ × ℕ
-round k (l, r) = (r, bitXor l (f r k))
+round k (l, r) = (r, bit_xor l (f r k))
 
 -- a round for each of the round keys
 abbrev pub rounds : List ℕ → ℕ × ℕ → ℕ × ℕ

@@ -1,16 +1,11 @@
 -- The rule of the S boxes: each of the 32 rows holds every number from 0 to 15 exactly once.
-use mathlib.Core.Path.{_≡_}
-use mathlib.Core.Bool.{cond}
-use mathlib.Core.List.{List, [], _∷_}
-use Prim.Native.Nat.{ℕ, _+_, _*_, _<_}
-use lib.Dec.{eqb}
-use lib.ListN.{take, drop}
-use Rattle·cipher·specs.Tables.{s-table}
+use Rattle.std.specs.Prelude.{◌≡◌, ℕ, ◌+◌, ◌*◌, ◌<◌, cond, List, [], ◌∷◌, take, drop, ◌==◌}
+use Rattle.cipher.specs.Tables.{s-table}
 
 -- how often v stands in the list
 abbrev pub times : ℕ → List ℕ → ℕ
 times v [] = 0
-times v (x ∷ xs) = cond (eqb v x) 1 0 + times v xs
+times v (x ∷ xs) = cond (v == x) 1 0 + times v xs
 
 -- row i of the table, from 0
 unfoldable pub row : ℕ → List ℕ

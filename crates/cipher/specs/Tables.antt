@@ -1,6 +1,5 @@
 -- The published tables of the DEA. A table of places names, for each bit of the result, the bit that it is taken from; bit 1 is the highest.
-use mathlib.Core.List.{List, [], _∷_}
-use Prim.Native.Nat.{ℕ}
+use Rattle.std.specs.Prelude.{ℕ, List, [], ◌∷◌}
 
 -- The initial permutation IP.
 abbrev pub ip-table : List ℕ

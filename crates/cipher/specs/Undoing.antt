@@ -1,6 +1,5 @@
 -- Two functions on blocks, F and G, that undo each other. A block is a number below 2 ^ 64.
-use mathlib.Core.Path.{_≡_}
-use Prim.Native.Nat.{ℕ, _<_, _^_}
+use Rattle.std.specs.Prelude.{◌≡◌, ℕ, ◌^◌, ◌<◌}
 
 pub record Undo (F G : ℕ → ℕ) : Type 0 where
   pub back : (b : ℕ) → b < 2 ^ 64 → G (F b) ≡ b

@@ -1,9 +1,5 @@
 -- A word of w bits is a number below 2 ^ w. Its bits count from 1, the highest, to w, the lowest.
-use mathlib.Core.Bool.{Bool, true, _&&_}
-use mathlib.Core.List.{List, [], _∷_}
-use Prim.Native.Nat.{ℕ, _+_, _-_, _*_, _/_, _%_, _^_}
-use lib.Dec.{leb}
-use lib.ListN.{length}
+use Rattle.std.specs.Prelude.{ℕ, ◌+◌, ◌-◌, ◌*◌, ◌/◌, ◌%◌, ◌^◌, Bool, true, ◌&&◌, List, [], ◌∷◌, length, nat_le}
 
 -- bit p of the word n of w bits
 abbrev pub bit : ℕ → ℕ → ℕ → ℕ
@@ -17,4 +13,4 @@ select w (p ∷ ps) n = bit w n p * 2 ^ length ps + select w ps n
 -- every place that the table names is one of the w bits of a word
 abbrev pub places : ℕ → List ℕ → Bool
 places w [] = true
-places w (p ∷ ps) = (leb 1 p && leb p w) && places w ps
+places w (p ∷ ps) = (nat_le 1 p && nat_le p w) && places w ps

@@ -1,17 +1,14 @@
 -- Worked values: what the definitions make of the numbers of published examples.
-use mathlib.Core.Path.{_≡_}
-use mathlib.Core.List.{List, [], _∷_}
-use Prim.Native.Nat.{ℕ}
-use lib.ListN.{getD}
-use Rattle·cipher·specs.Rounds.{ip, ip-inverse, expanded, s-box, permuted}
-use Rattle·cipher·specs.KeySchedule.{round-keys}
+use Rattle.std.specs.Prelude.{◌≡◌, ℕ, List, [], ◌∷◌, slice_index}
+use Rattle.cipher.specs.Rounds.{ip, ip-inverse, expanded, s-box, permuted}
+use Rattle.cipher.specs.KeySchedule.{round-keys}
 
 -- each row: what is computed, and its value
 abbrev pub worked-values : List (ℕ × ℕ)
 worked-values =
     (ip 0x0123456789ABCDEF, 0xCC00CCFFF0AAF0AA)
     ∷ (expanded 0xF0AAF0AA, 0x7A15557A1555)
-    ∷ (getD (round-keys 0x133457799BBCDFF1) 0 0, 0x1B02EFFC7072)
+    ∷ (slice_index (round-keys 0x133457799BBCDFF1) 0, 0x1B02EFFC7072)
     ∷ (s-box 0 0b011000, 5)
     ∷ (permuted 0x5C82B597, 0x234AA9BB)
     ∷ (ip-inverse 0x0A4CD99543423234, 0x85E813540F0AB405)
@@ -20,4 +17,4 @@ worked-values =
 -- every row has its value
 abbrev pub Hold : List (ℕ × ℕ) → Type 0
 Hold [] = Unit {0}
-Hold (row ∷ rows) = (row .0 ≡ row .1) × Hold rows
+Hold (row ∷ rows) = (row.0 ≡ row.1) × Hold rows

@@ -10,8 +10,8 @@ mod tables;
 mod tests;
 mod words;
 
-ghost use mathlib.Core.Path.{_≡_};
-ghost use Rattle·cipher·specs.Combined.{combined};
+ghost use Rattle.std.specs.Prelude.{◌≡◌};
+ghost use Rattle.cipher.specs.Combined.{combined};
 
 /// Single DEA: its round keys, and the S boxes and P as one table, computed when the cipher is built.
 #[derive(Drop)]

@@ -3,9 +3,8 @@ pub mod bytes;
 pub mod dea;
 pub mod triple;
 
-ghost use mathlib.Core.Path.{_≡_};
-ghost use Prim.Native.Nat.{ℕ};
-ghost use Rattle·cipher·specs.Undoing.{Undo};
+ghost use Rattle.std.specs.Prelude.{◌≡◌, ℕ};
+ghost use Rattle.cipher.specs.Undoing.{Undo};
 
 /// A block: 64 bits, of which bit 1 is the highest.
 pub type Block = u64;
@@ -16,11 +15,11 @@ pub trait Cipher {
 
     ghost inverse: { Self → ℕ → ℕ };
 
-    law undo: { (c : Self) → Undo (forward c) (inverse c) };
-
     fn forward(&self, block: Block) -> Block
-        ensures { λ r. ⌜ r ≡ forward (now (self .entry)) block ⌝ };
+        ensures { result ≡ forward self.now block };
 
     fn inverse(&self, block: Block) -> Block
-        ensures { λ r. ⌜ r ≡ inverse (now (self .entry)) block ⌝ };
+        ensures { result ≡ inverse self.now block };
+
+    ghost undo: { (c : Self) → Undo (forward c) (inverse c) };
 }

@@ -1,8 +1,9 @@
 //! Three ciphers in a row, the middle one inverse.
-ghost use mathlib.Core.Path.{_≡_};
-ghost use Rattle·cipher·specs.Triples.{in-row};
-use super::Block;
-use super::Cipher;
+ghost use Rattle.std.specs.Prelude.{◌≡◌};
+ghost use Rattle.cipher.specs.Triples.{in_row};
+ghost use Rattle.cipher.specs.InRow.{undo-in-row, undo-swapped};
+
+use super::{Block, Cipher};
 
 #[derive(Drop)]
 pub struct Triple<A, B, C> {
@@ -13,7 +14,7 @@ pub struct Triple<A, B, C> {
 
 impl<A, B, C> Triple<A, B, C> {
     pub fn new(first: A, second: B, third: C) -> Self
-        ensures { λ r. ⌜ r ≡ record { first = first; second = second; third = third } ⌝ }
+        ensures { result ≡ record { first = first; second = second; third = third } }
     {
         Triple {
             first,
@@ -23,10 +24,12 @@ impl<A, B, C> Triple<A, B, C> {
     }
 }
 
-pub impl<A: Cipher, B: Cipher, C: Cipher> Cipher for Triple<A, B, C> as TripleCipher {
-    ghost forward = { λ t. in-row (A·Cipher .forward (t .first)) (B·Cipher .inverse (t .second)) (C·Cipher .forward (t .third)) };
+impl<A: Cipher, B: Cipher, C: Cipher> Cipher for Triple<A, B, C> {
+    ghost forward = { λ t. in_row (A.Cipher.forward t.first) (B.Cipher.inverse t.second) (C.Cipher.forward t.third) };
 
-    ghost inverse = { λ t. in-row (C·Cipher .inverse (t .third)) (B·Cipher .forward (t .second)) (A·Cipher .inverse (t .first)) };
+    ghost inverse = { λ t. in_row (C.Cipher.inverse t.third) (B.Cipher.forward t.second) (A.Cipher.inverse t.first) };
+
+    ghost undo = { λ t. undo-in-row (A.Cipher.undo t.first) (undo-swapped (B.Cipher.undo t.second)) (C.Cipher.undo t.third) };
 
     fn forward(&self, block: Block) -> Block {
         self.third

@@ -1,46 +1,36 @@
 //! A record under triple DEA, block by block.
 use crate::loading::load_bundle;
-use crate::record::BLOCKS;
-use crate::record::RECORD;
-use crate::record::blocks_of;
-use crate::record::bytes_of;
+use crate::record::{BLOCKS, RECORD, blocks_of, bytes_of};
 use crate::shown::text_of;
-use cipher::Block;
-use cipher::Cipher;
-use cipher::dea::blocks::DeaCipher;
-use cipher::dea::known::substitution_row;
-use cipher::dea::known::worked_values;
-use cipher::triple::TripleCipher;
-use std::error::AnyError;
+use anyhow::anyhow;
+use cipher::dea::known::{substitution_row, worked_values};
+use cipher::{Block, Cipher};
 
 /// What the tables are known to hold.
-pub fn show_tables(rt: &LibcRuntime) -> Result<(), AnyError> {
+pub fn show_tables(rt: &HostRuntime) -> anyhow::Result<()> {
     let values = worked_values();
-    println!(rt, "{values} worked values of the cipher are proved")?;
+    println!(rt; "{values} worked values of the cipher are proved")?;
     let Some(row) = substitution_row(0) else {
-        return Err("no first row".into());
+        return Err(anyhow!("no first row"));
     };
-    println!(rt, "S box 1, row 0, holds 0 to 15 once each: {row:?}")?;
+    println!(rt; "S box 1, row 0, holds 0 to 15 once each: {row:?}")?;
     Ok(())
 }
 
 fn print_block(
-    rt: &LibcRuntime,
+    rt: &HostRuntime,
     i: usize,
     plain: Block,
     sent: Block,
     received: Block,
-) -> Result<(), AnyError> {
+) -> anyhow::Result<()> {
     let number = i.saturating_add(1);
-    println!(
-        rt,
-        "block {number}: {plain:016X} enciphered {sent:016X} deciphered {received:016X}"
-    )?;
+    println!(rt; "block {number}: {plain:016X} enciphered {sent:016X} deciphered {received:016X}")?;
     Ok(())
 }
 
 /// The record enciphered and deciphered again.
-pub fn show(rt: &LibcRuntime) -> Result<(), AnyError> {
+pub fn show(rt: &HostRuntime) -> anyhow::Result<()> {
     let heap = rt.alloc();
     let triple = load_bundle(rt)?.into_cipher();
     let plain = blocks_of(&RECORD);

@@ -1,10 +1,8 @@
 //! Loading keys: what is taken, what is refused, and what is left of the bytes.
 use crate::shown::print_bytes;
-use keys::KeyBundle;
-use keys::SingleKey;
+use anyhow::anyhow;
+use keys::{KeyBundle, SingleKey};
 use refusals::Refusal;
-use refusals::RefusalDisplay;
-use std::error::AnyError;
 
 /// The three keys of the example, eight bytes each.
 #[rattlefmt::skip]
@@ -14,30 +12,27 @@ const BUNDLE: [u8; 24] = [
     0x45, 0x67, 0x89, 0xAB, 0xCD, 0xEF, 0x01, 0x23,
 ];
 
-fn print_refusal(rt: &LibcRuntime, what: &str, refusal: Refusal) -> Result<(), AnyError> {
+fn print_refusal(rt: &HostRuntime, what: &str, refusal: Refusal) -> anyhow::Result<()> {
     let number = refusal.number();
     let detail = refusal.detail();
-    println!(
-        rt,
-        "{what} refused, number {number}, detail {detail}: {refusal}"
-    )?;
+    println!(rt; "{what} refused, number {number}, detail {detail}: {refusal}")?;
     Ok(())
 }
 
 /// The bundle of the example. The bytes are shown before and after loading.
-pub fn load_bundle(rt: &LibcRuntime) -> Result<KeyBundle, AnyError> {
+pub fn load_bundle(rt: &HostRuntime) -> anyhow::Result<KeyBundle> {
     let mut keys = BUNDLE;
     print_bytes(rt, "key bytes handed in: ", &keys)?;
     let loaded = KeyBundle::load(&mut keys);
     print_bytes(rt, "and after loading:   ", &keys)?;
     match loaded {
         Ok(bundle) => Ok(bundle),
-        Err(_) => Err("the bundle of the example is refused".into()),
+        Err(_) => Err(anyhow!("the bundle of the example is refused")),
     }
 }
 
 /// Keys that are not taken, and why.
-pub fn show_refused_keys(rt: &LibcRuntime) -> Result<(), AnyError> {
+pub fn show_refused_keys(rt: &HostRuntime) -> anyhow::Result<()> {
     let mut flipped = BUNDLE;
     flipped[9] = 0x44;
     if let Err(refusal) = KeyBundle::load(&mut flipped) {

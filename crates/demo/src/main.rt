@@ -1,4 +1,5 @@
 //! What the core does, for a person at the bench, up to a settlement file that travels over a bad line.
+
 mod ciphering;
 mod line;
 mod loading;
@@ -9,22 +10,20 @@ mod settlement;
 mod shown;
 mod transmission;
 
-use std::error::AnyError;
-
-fn main(rt: LibcRuntime) -> Result<(), AnyError> {
-    rt.report(run(&rt))
+fn main(rt: HostRuntime) -> anyhow::Result<()> {
+    run(&rt)
 }
 
-fn run(rt: &LibcRuntime) -> Result<(), AnyError> {
+fn run(rt: &HostRuntime) -> anyhow::Result<()> {
     ciphering::show_tables(rt)?;
-    println!(rt, "")?;
+    println!(rt; "")?;
     mode_table::show(rt)?;
-    println!(rt, "")?;
+    println!(rt; "")?;
     loading::show_refused_keys(rt)?;
-    println!(rt, "")?;
+    println!(rt; "")?;
     line::show(rt)?;
-    println!(rt, "")?;
+    println!(rt; "")?;
     ciphering::show(rt)?;
-    println!(rt, "")?;
+    println!(rt; "")?;
     settlement::show(rt)
 }

@@ -5,9 +5,7 @@ use modes::reach::Reach;
 use modes::values::InitialValues;
 use modes::way::Way;
 use modes::worked::worked_values;
-use refusals::RefusalDisplay;
-use std::fmt;
-use std::io;
+use std::{fmt, io};
 
 /// Three initial values, eight bytes each.
 #[rattlefmt::skip]
@@ -21,7 +19,7 @@ const VALUES: [u8; 24] = [
 #[derive(Clone, Copy)]
 struct Figure(Option<usize>);
 
-impl fmt::Display for Figure as FigureDisplay {
+impl fmt::Display for Figure {
     fn fmt<W: fmt::Write>(&self, f: &mut fmt::Formatter<W>) -> fmt::Result {
         match self.0 {
             Some(number) => write!(f, "{number}"),
@@ -34,7 +32,7 @@ impl fmt::Display for Figure as FigureDisplay {
 #[derive(Clone, Copy)]
 struct ReachOfD(Option<Reach>);
 
-impl fmt::Display for ReachOfD as ReachOfDDisplay {
+impl fmt::Display for ReachOfD {
     fn fmt<W: fmt::Write>(&self, f: &mut fmt::Formatter<W>) -> fmt::Result {
         match self.0 {
             None => write!(f, "none"),
@@ -52,7 +50,7 @@ impl fmt::Display for ReachOfD as ReachOfDDisplay {
 }
 
 // One line of the table.
-fn show_mode(rt: &LibcRuntime, mode: Mode) -> io::Result<()> {
+fn show_mode(rt: &HostRuntime, mode: Mode) -> io::Result<()> {
     let code = mode.code();
     let name = mode.name();
     let width = mode.width();
@@ -61,42 +59,41 @@ fn show_mode(rt: &LibcRuntime, mode: Mode) -> io::Result<()> {
     let deciphering = Figure(mode.distance(Way::Deciphering));
     let memory = Figure(mode.memory());
     let reach = ReachOfD(mode.reach());
-    println!(
-        rt,
+    println!(rt;
         "{code:2} {name:6} width {width:2}, initial values {values}, distance {enciphering} / {deciphering}, memory {memory}, reach {reach}"
     )
 }
 
 // An opening, and the order or the refusal that answers it.
-fn show_opening(rt: &LibcRuntime, code: u8, bytes: &[u8]) -> io::Result<()> {
+fn show_opening(rt: &HostRuntime, code: u8, bytes: &[u8]) -> io::Result<()> {
     let length = bytes.len();
-    print!(rt, "code {code:2}, {length:2} bytes: ")?;
+    print!(rt; "code {code:2}, {length:2} bytes: ")?;
     match Order::check(code, bytes) {
         Ok(order) => {
             let name = order.mode().name();
             match order.initial_values() {
-                InitialValues::Empty => println!(rt, "{name}"),
-                InitialValues::One(a) => println!(rt, "{name} {a:016X}"),
-                InitialValues::Three(a, b, c) => println!(rt, "{name} {a:016X} {b:016X} {c:016X}"),
+                InitialValues::Empty => println!(rt; "{name}"),
+                InitialValues::One(a) => println!(rt; "{name} {a:016X}"),
+                InitialValues::Three(a, b, c) => println!(rt; "{name} {a:016X} {b:016X} {c:016X}"),
             }
         }
         Err(refusal) => {
             let number = refusal.number();
             let detail = refusal.detail();
-            println!(rt, "refused {number} {detail}: {refusal}")
+            println!(rt; "refused {number} {detail}: {refusal}")
         }
     }
 }
 
-pub fn show(rt: &LibcRuntime) -> io::Result<()> {
-    println!(rt, "the modes:")?;
+pub fn show(rt: &HostRuntime) -> io::Result<()> {
+    println!(rt; "the modes:")?;
     for code in 0..=12u8 {
         if let Some(mode) = Mode::from_code(code) {
             show_mode(rt, mode)?;
         }
     }
-    println!(rt, "")?;
-    println!(rt, "openings:")?;
+    println!(rt; "")?;
+    println!(rt; "openings:")?;
     show_opening(rt, 1, &[])?;
     show_opening(rt, 5, &VALUES[0..8])?;
     show_opening(rt, 11, &VALUES)?;
@@ -105,10 +102,7 @@ pub fn show(rt: &LibcRuntime) -> io::Result<()> {
     show_opening(rt, 1, &VALUES[0..8])?;
     show_opening(rt, 3, &VALUES[0..8])?;
     show_opening(rt, 10, &VALUES[0..7])?;
-    println!(rt, "")?;
+    println!(rt; "")?;
     let worked = worked_values();
-    println!(
-        rt,
-        "{worked} worked values of the shift and the schedule are proved"
-    )
+    println!(rt; "{worked} worked values of the shift and the schedule are proved")
 }

@@ -1,15 +1,11 @@
 //! The story: a settlement file travels over a bad line.
-use crate::records::RECORDS;
-use crate::records::UNITS;
-use crate::records::record;
-use crate::records::units;
+use crate::records::{RECORDS, UNITS, record, units};
 use crate::shown::text_of;
 use crate::transmission;
-use crate::transmission::Accounts;
-use crate::transmission::Transmission;
+use crate::transmission::{Accounts, Transmission};
+use anyhow::anyhow;
 use modes::order::Order;
 use modes::way::Way;
-use std::error::AnyError;
 
 /// Initial values of the interleaved chaining mode, eight bytes each.
 #[rattlefmt::skip]
@@ -86,25 +82,24 @@ fn formula(units: usize, distance: Option<usize>, depth: usize) -> usize {
 }
 
 fn print_accounts(
-    rt: &LibcRuntime,
+    rt: &HostRuntime,
     who: &str,
     accounts: Accounts,
     distance: Option<usize>,
     depth: usize,
-) -> Result<(), AnyError> {
+) -> anyhow::Result<()> {
     let taken = accounts.taken;
     let handed_out = accounts.handed_out;
     let inside = accounts.inside;
     let cycles = accounts.cycles;
     let by_formula = formula(taken, distance, depth);
-    println!(
-        rt,
+    println!(rt;
         "{who}, depth {depth}: taken {taken}, handed out {handed_out}, inside {inside}, cycles {cycles}, by the formula {by_formula}"
     )?;
     Ok(())
 }
 
-fn print_records(rt: &LibcRuntime, transmission: &Transmission) -> Result<(), AnyError> {
+fn print_records(rt: &HostRuntime, transmission: &Transmission) -> anyhow::Result<()> {
     let heap = rt.alloc();
     for number in 0..RECORDS {
         let sent = record(number);
@@ -112,20 +107,20 @@ fn print_records(rt: &LibcRuntime, transmission: &Transmission) -> Result<(), An
         let state = if sent == received { "right" } else { "WRONG" };
         let sent = text_of(heap, &sent)?;
         let received = text_of(heap, &received)?;
-        println!(rt, "{sent}   {received}   {state}")?;
+        println!(rt; "{sent}   {received}   {state}")?;
     }
     Ok(())
 }
 
-pub fn show(rt: &LibcRuntime) -> Result<(), AnyError> {
+pub fn show(rt: &HostRuntime) -> anyhow::Result<()> {
     let Ok(order) = Order::check(CODE, &VALUES) else {
-        return Err("the opening of the example is refused".into());
+        return Err(anyhow!("the opening of the example is refused"));
     };
     let mode = order.mode();
     let file = units();
     let transmission = transmission::run(rt, order, &file, FLIPPED, LOST)?;
     if transmission.refused.is_some() {
-        return Err("a feed or a drain was refused".into());
+        return Err(anyhow!("a feed or a drain was refused"));
     }
     let name = mode.name();
     let sent = transmission.sent.count;
@@ -133,18 +128,14 @@ pub fn show(rt: &LibcRuntime) -> Result<(), AnyError> {
     let on_the_way = transmission.on_the_way;
     let flipped = FLIPPED + 1;
     let lost = LOST + 1;
-    println!(rt, "{RECORDS} records sent in {name}: {sent} units")?;
-    println!(
-        rt,
+    println!(rt; "{RECORDS} records sent in {name}: {sent} units")?;
+    println!(rt;
         "the line flipped a bit of unit {flipped} and lost unit {lost}: {received} received, {on_the_way} not"
     )?;
-    println!(rt, "sent                       received")?;
+    println!(rt; "sent                       received")?;
     print_records(rt, &transmission)?;
     let from = reads_right_from(&transmission, &file).saturating_add(1);
-    println!(
-        rt,
-        "the receiver reads right again from sent unit {from} on"
-    )?;
+    println!(rt; "the receiver reads right again from sent unit {from} on")?;
     print_accounts(
         rt,
         "sender",

@@ -1,15 +1,13 @@
 //! Bytes as a person reads them.
-use std::alloc::AllocError;
-use std::alloc::Global;
-use std::error::AnyError;
+use std::alloc::{AllocError, Global};
 
 /// A line of bytes in hexadecimal.
-pub fn print_bytes(rt: &LibcRuntime, label: &str, bytes: &[u8]) -> Result<(), AnyError> {
+pub fn print_bytes(rt: &HostRuntime, label: &str, bytes: &[u8]) -> anyhow::Result<()> {
     rt.print(label)?;
     for byte in bytes {
-        print!(rt, "{byte:02X}")?;
+        print!(rt; "{byte:02X}")?;
     }
-    println!(rt, "")?;
+    println!(rt; "")?;
     Ok(())
 }
 

@@ -2,22 +2,15 @@
 use crate::loading::load_bundle;
 use crate::records::UNITS;
 use cipher::dea::Dea;
-use cipher::dea::blocks::DeaCipher;
 use cipher::triple::Triple;
-use cipher::triple::TripleCipher;
 use engines::engine::Engine;
 use engines::line::Line;
-use engines::line::LineEngine;
 use engines::plain::Plain;
-use engines::plain::PlainEngine;
 use modes::order::Order;
 use refusals::Refusal;
 use runs::cartridge::Cartridge;
 use runs::ends::units_on_the_way;
-use runs::run::DecipheringRun;
-use runs::run::EncipheringRun;
-use runs::run::Run;
-use std::error::AnyError;
+use runs::run::{DecipheringRun, EncipheringRun, Run};
 
 /// Units of the file, of which the first `count` are there.
 #[derive(Clone, Copy)]
@@ -178,12 +171,12 @@ fn transmit<S: Engine + Drop, R: Engine + Drop>(
 
 /// The file under the example's keys: sent on the line, received on a plain engine over the triple.
 pub fn run(
-    rt: &LibcRuntime,
+    rt: &HostRuntime,
     order: Order,
     file: &[u64; UNITS],
     flipped: usize,
     lost: usize,
-) -> Result<Transmission, AnyError> {
+) -> anyhow::Result<Transmission> {
     let (first, second, third) = load_bundle(rt)?.into_ciphers();
     let line: Line<Dea, Dea, Dea> = Line::new(first, second, third);
     let (first, second, third) = load_bundle(rt)?.into_ciphers();

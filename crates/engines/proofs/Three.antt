@@ -1,13 +1,10 @@
 -- A list of three, written from its first place on.
-use mathlib.Core.Path.{_≡_, refl}
-use mathlib.Core.List.{List, [], _∷_}
-use native.Mathlib.Omega.{arith}
-use lib.ListN.{length, getD, set}
+use Rattle.std.proofs.Common.{◌≡◌, List, [], ◌∷◌, length, get_or, set, refl, arith}
 
 -- each place but the first takes what is made of the place before it
 pub three-moved : {X : Type 0} (xs : List X) (x d : X) (f g : X → X)
     → length xs ≡ 3
-    → set (set (set xs 0 x) 1 (f (getD xs 0 d))) 2 (g (getD (set xs 0 x) 1 d)) ≡ x ∷ f (getD xs 0 d) ∷ g (getD xs 1 d) ∷ []
+    → set (set (set xs 0 x) 1 (f (get_or xs 0 d))) 2 (g (get_or (set xs 0 x) 1 d)) ≡ x ∷ f (get_or xs 0 d) ∷ g (get_or xs 1 d) ∷ []
 three-moved [] x d f g h = absurd (omega arith)
 three-moved (a ∷ []) x d f g h = absurd (omega arith)
 three-moved (a ∷ b ∷ []) x d f g h = absurd (omega arith)

@@ -1,5 +1,5 @@
 -- No engine is deeper than this.
-use Prim.Native.Nat.{ℕ}
+use Rattle.std.specs.Prelude.{ℕ}
 
 abbrev pub greatest-depth : ℕ
 greatest-depth = 8

@@ -1,17 +1,15 @@
 //! What can be done with any engine.
-ghost use mathlib.Core.Path.{_≡_};
-ghost use lib.ListN.{length, replicate, set, take};
-ghost use Rattle·std.specs.declared.option.Option.the-variants.{None};
-ghost use Rattle·engines·specs.Depths.{greatest-depth};
-ghost use Rattle·engines·specs.Cycles.{due, emptied, In-time, later, written-over};
-use super::engine::Engine;
-use super::engine::GREATEST_DEPTH;
+ghost use Rattle.std.specs.Prelude.{◌≡◌, length, take, replicate, None, slice_set};
+ghost use Rattle.engines.specs.Depths.{greatest-depth};
+ghost use Rattle.engines.specs.Cycles.{due, emptied, In-time, later, written_over};
+
+use super::engine::{Engine, GREATEST_DEPTH};
 use super::work::Work;
 use cipher::Block;
 
 // Writes an answer in its place, if there is one.
 fn write_down(answers: &mut [Option<Block>], cycle: usize, answer: Option<Block>)
-    ensures { λ _. ⌜ now (answers .exit) ≡ set (now (answers .entry)) cycle answer ⌝ }
+    ensures { answers.new ≡ slice_set answers.old cycle answer }
 {
     if cycle < answers.len() {
         answers[cycle] = answer;
@@ -20,9 +18,9 @@ fn write_down(answers: &mut [Option<Block>], cycle: usize, answer: Option<Block>
 
 /// Clocks an engine once for each input, and writes down the answer of each cycle. Answers past the end of the list are lost.
 pub fn clock_each<E: Engine>(engine: &mut E, inputs: &[Option<Work>], answers: &mut [Option<Block>])
-    ensures written { λ _. ⌜ now (answers .exit) ≡ written-over (take (length (now (inputs .entry))) (due (E·Engine .machine (now (engine .entry))) (now (inputs .entry)))) (now (answers .entry)) ⌝ }
-    ensures timely { λ _. ⌜ In-time (E·Engine .machine (now (engine .entry))) (now (inputs .entry)) (now (answers .exit)) ⌝ }
-    ensures after { λ _. ⌜ E·Engine .machine (now (engine .exit)) ≡ later (E·Engine .machine (now (engine .entry))) (now (inputs .entry)) ⌝ }
+    ensures written { answers.new ≡ written_over (take (length inputs.now) (due (E.Engine.machine engine.old) inputs.now)) answers.old }
+    ensures timely { In-time (E.Engine.machine engine.old) inputs.now answers.new }
+    ensures after { E.Engine.machine engine.new ≡ later (E.Engine.machine engine.old) inputs.now }
 {
     for (cycle, input) in inputs.iter().enumerate() {
         let answer = engine.clock(*input);
@@ -32,22 +30,22 @@ pub fn clock_each<E: Engine>(engine: &mut E, inputs: &[Option<Work>], answers: &
 
 // How many places an engine's row has.
 fn places_of<E: Engine>(engine: &E) -> usize
-    ensures { λ r. ⌜ r ≡ length (E·Engine .machine (now (engine .entry)) .row) ⌝ }
+    ensures { result ≡ length (E.Engine.machine engine.now).row }
 {
     engine.depth_of() - 1
 }
 
 // Empty inputs, enough for the row of any engine.
 fn empty_inputs() -> [Option<Work>; GREATEST_DEPTH]
-    ensures { λ r. ⌜ r ≡ replicate greatest-depth None ⌝ }
+    ensures { result ≡ replicate greatest-depth None }
 {
     [None; GREATEST_DEPTH]
 }
 
 /// Clocks an engine empty: one empty cycle for each place of its row, which come out in order.
 pub fn flush<E: Engine>(engine: &mut E, answers: &mut [Option<Block>])
-    ensures written { λ _. ⌜ now (answers .exit) ≡ written-over (E·Engine .machine (now (engine .entry)) .row) (now (answers .entry)) ⌝ }
-    ensures after { λ _. ⌜ E·Engine .machine (now (engine .exit)) ≡ emptied (E·Engine .machine (now (engine .entry))) ⌝ }
+    ensures written { answers.new ≡ written_over (E.Engine.machine engine.old).row answers.old }
+    ensures after { E.Engine.machine engine.new ≡ emptied (E.Engine.machine engine.old) }
 {
     let nothing = empty_inputs();
     let places = places_of(engine);
@@ -56,7 +54,7 @@ pub fn flush<E: Engine>(engine: &mut E, answers: &mut [Option<Block>])
 
 /// Clocks an engine empty, and throws away what comes out.
 pub fn clear<E: Engine>(engine: &mut E)
-    ensures { λ _. ⌜ E·Engine .machine (now (engine .exit)) ≡ emptied (E·Engine .machine (now (engine .entry))) ⌝ }
+    ensures { E.Engine.machine engine.new ≡ emptied (E.Engine.machine engine.old) }
 {
     flush(engine, &mut []);
 }

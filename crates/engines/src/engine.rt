@@ -1,10 +1,9 @@
 //! What an engine means. Whatever shows this is an engine, and nothing more is known of one.
-ghost use mathlib.Core.Path.{_≡_};
-ghost use Prim.Native.Nat.{_+_, _≤_};
-ghost use lib.ListN.{length};
-ghost use Rattle·cipher.specs.Undoing.{Undo};
-ghost use Rattle·engines·specs.Machines.{Machine, answered, turned};
-ghost use Rattle·engines·specs.Depths.{greatest-depth};
+ghost use Rattle.std.specs.Prelude.{◌≡◌, ◌+◌, ◌≤◌, length};
+ghost use Rattle.cipher.specs.Undoing.{Undo};
+ghost use Rattle.engines.specs.Machines.{Machine, answered, turned};
+ghost use Rattle.engines.specs.Depths.{greatest-depth};
+
 use super::work::Work;
 use cipher::Block;
 
@@ -13,7 +12,7 @@ pub const GREATEST_DEPTH: usize = 8;
 
 /// The greatest depth of an engine, as proofs know it.
 pub fn greatest_depth() -> usize
-    ensures { λ r. ⌜ r ≡ greatest-depth ⌝ }
+    ensures { result ≡ greatest-depth }
 {
     GREATEST_DEPTH
 }
@@ -26,18 +25,18 @@ pub trait Engine: Sized {
 
     ghost machine: { Self → Machine };
 
-    law undo: { (e : Self) → Undo (machine e .forward) (machine e .inverse) };
-
-    law places: { (e : Self) → length (machine e .row) + 1 ≡ machine e .depth };
-
-    law shallow: { (e : Self) → machine e .depth ≤ greatest-depth };
-
     /// The depth, tied to the meaning. Code over any engine asks here, since no proof can speak of the constant.
     fn depth_of(&self) -> usize
-        ensures { λ r. ⌜ r ≡ machine (now (self .entry)) .depth ⌝ };
+        ensures { result ≡ (machine self.now).depth };
 
     /// One cycle: takes nothing or one block with its direction, and answers what stands at the front.
     fn clock(&mut self, input: Option<Work>) -> Option<Block>
-        ensures answer { λ r. ⌜ r ≡ answered (machine (now (self .entry))) input ⌝ }
-        ensures after { λ _. ⌜ machine (now (self .exit)) ≡ turned (machine (now (self .entry))) input ⌝ };
+        ensures answer { result ≡ answered (machine self.old) input }
+        ensures after { machine self.new ≡ turned (machine self.old) input };
+
+    ghost undo: { (e : Self) → Undo (machine e).forward (machine e).inverse };
+
+    ghost places: { (e : Self) → length (machine e).row + 1 ≡ (machine e).depth };
+
+    ghost shallow: { (e : Self) → (machine e).depth ≤ greatest-depth };
 }

@@ -1,20 +1,17 @@
 //! The line: three functional blocks that work three blocks at once.
-ghost use mathlib.Core.Path.{_≡_};
-ghost use mathlib.Core.List.{[], _∷_};
-ghost use lib.ListN.{length};
-ghost use Rattle·cipher.specs.Triples.{in-row};
-ghost use Rattle·engines·specs.declared.table.BlockState.the-variants.{Idle};
-ghost use Rattle·engines·specs.Machines.{answered, resting, turned};
-ghost use Rattle·engines·specs.Tables.{held, state};
-ghost use Rattle·engines·specs.Lines.{advanced, line-machine, stage-function, turned-at};
+ghost use Rattle.std.specs.Prelude.{◌≡◌, [], ◌∷◌, length};
+ghost use Rattle.cipher.specs.Triples.{in_row};
+ghost use Rattle.engines.specs.declared.table.BlockState.TheVariants.{Idle};
+ghost use Rattle.engines.specs.Machines.{answered, resting, turned};
+ghost use Rattle.engines.specs.Tables.{held, state};
+ghost use Rattle.engines.specs.Lines.{advanced, line-machine, stage-function, turned-at};
+ghost use Rattle.cipher.specs.InRow.{undo-in-row, undo-swapped};
+ghost use Rattle.std.proofs.Common.{rules};
+
 use super::engine::Engine;
-use super::table::BlockState;
-use super::table::Stage;
-use super::table::Table;
-use super::work::Direction;
-use super::work::Work;
-use cipher::Block;
-use cipher::Cipher;
+use super::table::{BlockState, Stage, Table};
+use super::work::{Direction, Work};
+use cipher::{Block, Cipher};
 
 // A proof reads this name, and not the trait's constant.
 const LINE_DEPTH: usize = 3;
@@ -31,8 +28,8 @@ pub struct Line<A, B, C> {
 impl<A: Cipher, B: Cipher, C: Cipher> Line<A, B, C> {
     /// A line with all its functional blocks idle.
     pub fn new(first: A, second: B, third: C) -> Self
-        ensures means { λ r. ⌜ line-machine A·Cipher B·Cipher C·Cipher r ≡ resting (in-row (A·Cipher .forward first) (B·Cipher .inverse second) (C·Cipher .forward third)) (in-row (C·Cipher .inverse third) (B·Cipher .forward second) (A·Cipher .inverse first)) 3 ⌝ }
-        ensures idle { λ r. ⌜ r .table .blocks ≡ Idle ∷ Idle ∷ Idle ∷ [] ⌝ }
+        ensures means { line-machine A.Cipher B.Cipher C.Cipher result ≡ resting (in_row (A.Cipher.forward first) (B.Cipher.inverse second) (C.Cipher.forward third)) (in_row (C.Cipher.inverse third) (B.Cipher.forward second) (A.Cipher.inverse first)) 3 }
+        ensures idle { result.table.blocks ≡ Idle ∷ Idle ∷ Idle ∷ [] }
     {
         Line {
             first,
@@ -44,14 +41,14 @@ impl<A: Cipher, B: Cipher, C: Cipher> Line<A, B, C> {
 
     /// What stands in one of the functional blocks.
     pub fn state(&self, stage: Stage) -> BlockState
-        ensures { λ r. ⌜ r ≡ state (now (self .entry) .table .blocks) stage ⌝ }
+        ensures { result ≡ state self.now.table.blocks stage }
     {
         self.table.state(stage)
     }
 
     // The work of a functional block. The inverse goes through the ciphers the other way round.
     fn worked(&self, stage: Stage, work: Work) -> Block
-        ensures { λ r. ⌜ r ≡ stage-function A·Cipher B·Cipher C·Cipher (now (self .entry)) stage (work .direction) (work .block) ⌝ }
+        ensures { result ≡ stage-function A.Cipher B.Cipher C.Cipher self.now stage work.direction work.block }
     {
         match (stage, work.direction) {
             (Stage::First, Direction::Forward) => self.first.forward(work.block),
@@ -65,9 +62,9 @@ impl<A: Cipher, B: Cipher, C: Cipher> Line<A, B, C> {
 
     // One functional block works what comes in, and hands on what it held.
     fn turn(&mut self, stage: Stage, event: Option<Work>) -> Option<Work>
-        ensures handed { λ r. ⌜ r ≡ held (state (now (self .entry) .table .blocks) stage) ⌝ }
-        ensures after { λ _. ⌜ now (self .exit) ≡ turned-at A·Cipher B·Cipher C·Cipher (now (self .entry)) stage event ⌝ }
-        ensures three { λ _. ⌜ length (now (self .exit) .table .blocks) ≡ 3 ⌝ }
+        ensures handed { result ≡ held (state self.old.table.blocks stage) }
+        ensures after { self.new ≡ turned-at A.Cipher B.Cipher C.Cipher self.old stage event }
+        ensures three { length self.new.table.blocks ≡ 3 }
     {
         let taken = match event {
             None => None,
@@ -81,7 +78,7 @@ impl<A: Cipher, B: Cipher, C: Cipher> Line<A, B, C> {
 
     // One cycle: each functional block takes up what the one before it held.
     fn advance(&mut self, input: Option<Work>)
-        ensures { λ _. ⌜ now (self .exit) ≡ advanced A·Cipher B·Cipher C·Cipher (now (self .entry)) input ⌝ }
+        ensures { self.new ≡ advanced A.Cipher B.Cipher C.Cipher self.old input }
     {
         let from_first = self.turn(Stage::First, input);
         let from_second = self.turn(Stage::Second, from_first);
@@ -89,10 +86,16 @@ impl<A: Cipher, B: Cipher, C: Cipher> Line<A, B, C> {
     }
 }
 
-pub impl<A: Cipher, B: Cipher, C: Cipher> Engine for Line<A, B, C> as LineEngine {
+impl<A: Cipher, B: Cipher, C: Cipher> Engine for Line<A, B, C> {
     const DEPTH: usize = LINE_DEPTH;
 
-    ghost machine = { line-machine A·Cipher B·Cipher C·Cipher };
+    ghost machine = { line-machine A.Cipher B.Cipher C.Cipher };
+
+    ghost undo = { λ l. undo-in-row (A.Cipher.undo l.first) (undo-swapped (B.Cipher.undo l.second)) (C.Cipher.undo l.third) };
+
+    ghost places = { Prim.search rules };
+
+    ghost shallow = { Prim.search rules };
 
     fn depth_of(&self) -> usize {
         LINE_DEPTH
@@ -100,9 +103,9 @@ pub impl<A: Cipher, B: Cipher, C: Cipher> Engine for Line<A, B, C> as LineEngine
 
     /// Besides what any engine promises: each functional block holds its own work on what the one before it held.
     fn clock(&mut self, input: Option<Work>) -> Option<Block>
-        ensures answer { λ r. ⌜ r ≡ answered (line-machine A·Cipher B·Cipher C·Cipher (now (self .entry))) input ⌝ }
-        ensures after { λ _. ⌜ line-machine A·Cipher B·Cipher C·Cipher (now (self .exit)) ≡ turned (line-machine A·Cipher B·Cipher C·Cipher (now (self .entry))) input ⌝ }
-        ensures held { λ _. ⌜ now (self .exit) ≡ advanced A·Cipher B·Cipher C·Cipher (now (self .entry)) input ⌝ }
+        ensures answer { result ≡ answered (line-machine A.Cipher B.Cipher C.Cipher self.old) input }
+        ensures after { line-machine A.Cipher B.Cipher C.Cipher self.new ≡ turned (line-machine A.Cipher B.Cipher C.Cipher self.old) input }
+        ensures held { self.new ≡ advanced A.Cipher B.Cipher C.Cipher self.old input }
     {
         self.advance(input);
         self.table.state(Stage::Third).block()

@@ -1,12 +1,12 @@
 //! The plain engine: a cipher that answers in the cycle that it is asked in.
-ghost use mathlib.Core.Path.{_≡_};
-ghost use Rattle·engines·specs.Machines.{resting};
-ghost use Rattle·engines·specs.PlainEngines.{plain-machine};
+ghost use Rattle.std.specs.Prelude.{◌≡◌};
+ghost use Rattle.engines.specs.Machines.{resting};
+ghost use Rattle.engines.specs.PlainEngines.{plain-machine};
+ghost use Rattle.std.proofs.Common.{rules};
+
 use super::engine::Engine;
-use super::work::Direction;
-use super::work::Work;
-use cipher::Block;
-use cipher::Cipher;
+use super::work::{Direction, Work};
+use cipher::{Block, Cipher};
 
 // A proof reads this name, and not the trait's constant.
 const PLAIN_DEPTH: usize = 1;
@@ -19,16 +19,22 @@ pub struct Plain<C> {
 
 impl<C: Cipher> Plain<C> {
     pub fn new(cipher: C) -> Self
-        ensures { λ r. ⌜ plain-machine C·Cipher r ≡ resting (C·Cipher .forward cipher) (C·Cipher .inverse cipher) 1 ⌝ }
+        ensures { plain-machine C.Cipher result ≡ resting (C.Cipher.forward cipher) (C.Cipher.inverse cipher) 1 }
     {
         Plain { cipher }
     }
 }
 
-pub impl<C: Cipher> Engine for Plain<C> as PlainEngine {
+impl<C: Cipher> Engine for Plain<C> {
     const DEPTH: usize = PLAIN_DEPTH;
 
-    ghost machine = { plain-machine C·Cipher };
+    ghost machine = { plain-machine C.Cipher };
+
+    ghost undo = { Prim.search rules };
+
+    ghost places = { Prim.search rules };
+
+    ghost shallow = { Prim.search rules };
 
     fn depth_of(&self) -> usize {
         PLAIN_DEPTH
@@ -36,11 +42,9 @@ pub impl<C: Cipher> Engine for Plain<C> as PlainEngine {
 
     fn clock(&mut self, input: Option<Work>) -> Option<Block> {
         let work = input?;
-        Some(
-            match work.direction {
-                Direction::Forward => self.cipher.forward(work.block),
-                Direction::Inverse => self.cipher.inverse(work.block),
-            },
-        )
+        Some(match work.direction {
+            Direction::Forward => self.cipher.forward(work.block),
+            Direction::Inverse => self.cipher.inverse(work.block),
+        })
     }
 }

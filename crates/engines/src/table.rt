@@ -1,9 +1,8 @@
 //! The functional blocks of a line, in one table.
-ghost use mathlib.Core.Path.{_≡_};
-ghost use mathlib.Core.List.{[], _∷_};
-ghost use lib.ListN.{length, set};
-ghost use Rattle·engines·specs.declared.table.BlockState.the-variants.{Idle};
-ghost use Rattle·engines·specs.Tables.{block-in, held, holding, place, state};
+ghost use Rattle.std.specs.Prelude.{◌≡◌, [], ◌∷◌, length, slice_set};
+ghost use Rattle.engines.specs.declared.table.BlockState.TheVariants.{Idle};
+ghost use Rattle.engines.specs.Tables.{block_in, held, holding, place, state};
+
 use super::work::Work;
 use cipher::Block;
 
@@ -25,8 +24,8 @@ pub enum BlockState {
 impl BlockState {
     /// One cycle: the block takes up what comes in and hands on what it held. With nothing coming in it falls idle.
     pub fn turn(&mut self, event: Option<Work>) -> Option<Work>
-        ensures handed { λ r. ⌜ r ≡ held (now (self .entry)) ⌝ }
-        ensures after { λ _. ⌜ now (self .exit) ≡ holding event ⌝ }
+        ensures handed { result ≡ held self.old }
+        ensures after { self.new ≡ holding event }
     {
         match (*self, event) {
             (BlockState::Idle, None) => None,
@@ -47,7 +46,7 @@ impl BlockState {
 
     /// The block that it holds.
     pub fn block(self) -> Option<Block>
-        ensures { λ r. ⌜ r ≡ block-in self ⌝ }
+        ensures { result ≡ block_in self }
     {
         match self {
             BlockState::Idle => None,
@@ -65,7 +64,7 @@ pub(crate) struct Table {
 impl Table {
     // All idle.
     pub(crate) fn new() -> Self
-        ensures { λ r. ⌜ r ≡ record { blocks = Idle ∷ Idle ∷ Idle ∷ [] } ⌝ }
+        ensures { result ≡ record { blocks = Idle ∷ Idle ∷ Idle ∷ [] } }
     {
         Table {
             blocks: [BlockState::Idle; 3],
@@ -74,7 +73,7 @@ impl Table {
 
     // What one of them holds.
     pub(crate) fn state(&self, stage: Stage) -> BlockState
-        ensures { λ r. ⌜ r ≡ state (now (self .entry) .blocks) stage ⌝ }
+        ensures { result ≡ state self.now.blocks stage }
     {
         match stage {
             Stage::First => self.blocks[0],
@@ -85,9 +84,9 @@ impl Table {
 
     // One of them takes its turn, and its neighbours stay as they are.
     pub(crate) fn turn(&mut self, stage: Stage, event: Option<Work>) -> Option<Work>
-        ensures handed { λ r. ⌜ r ≡ held (state (now (self .entry) .blocks) stage) ⌝ }
-        ensures after { λ _. ⌜ now (self .exit) ≡ record { blocks = set (now (self .entry) .blocks) (place stage) (holding event) } ⌝ }
-        ensures three { λ _. ⌜ length (now (self .exit) .blocks) ≡ 3 ⌝ }
+        ensures handed { result ≡ held (state self.old.blocks stage) }
+        ensures after { self.new ≡ record { blocks = slice_set self.old.blocks (place stage) (holding event) } }
+        ensures three { length self.new.blocks ≡ 3 }
     {
         match stage {
             Stage::First => self.blocks[0].turn(event),

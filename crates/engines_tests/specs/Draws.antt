@@ -1,11 +1,7 @@
 -- A linear congruential generator, and what is drawn from it.
-use mathlib.Core.Bool.{cond}
-use Prim.Native.Nat.{ℕ, _+_, _*_, _/_, _%_, _^_}
-use lib.Dec.{eqb, ltb}
-use Rattle·std.specs.declared.option.Option.{Option}
-use Rattle·std.specs.declared.option.Option.the-variants.{Some, None}
-use Rattle·engines.specs.declared.work.Direction.the-variants.{Forward, Inverse}
-use Rattle·engines.specs.declared.work.Work.{Work}
+use Rattle.std.specs.Prelude.{ℕ, ◌+◌, ◌*◌, ◌/◌, ◌%◌, ◌^◌, cond, Some, None, Option, ◌==◌, nat_lt}
+use Rattle.engines.specs.declared.work.Direction.TheVariants.{Forward, Inverse}
+use Rattle.engines.specs.declared.work.Work.{Work}
 
 abbrev pub next : ℕ → ℕ
 next n = (n * 6364136223846793005 % 2 ^ 64 + 1442695040888963407) % 2 ^ 64
@@ -14,4 +10,4 @@ next n = (n * 6364136223846793005 % 2 ^ 64 + 1442695040888963407) % 2 ^ 64
 abbrev pub drawn : ℕ → Option Work
 drawn n =
     let kind = next n / 2 ^ 60 in
-    cond (ltb kind 5) None (Some (record { block = next (next n); direction = cond (eqb (kind % 2) 0) Forward Inverse }))
+    cond (nat_lt kind 5) None (Some (record { block = next (next n); direction = cond (kind % 2 == 0) Forward Inverse }))

@@ -1,2 +1,3 @@
 pub mod Toys
 pub mod Draws
+pub mod CrossedCipherLemmas

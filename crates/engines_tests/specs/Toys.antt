@@ -1,6 +1,5 @@
 -- The functions of the toy ciphers.
-use Prim.Native.Nat.{ℕ, _+_, _-_, _*_, _/_, _%_, _^_}
-use lib.Bits.{bitXor}
+use Rattle.std.specs.Prelude.{ℕ, ◌+◌, ◌-◌, ◌*◌, ◌/◌, ◌%◌, ◌^◌, bit_xor}
 
 abbrev pub rotated : ℕ → ℕ
 rotated b = b % 2 ^ 56 * 2 ^ 8 + b / 2 ^ 56
@@ -15,4 +14,4 @@ abbrev pub taken-off : ℕ → ℕ → ℕ
 taken-off n b = (b + (2 ^ 64 - n % 2 ^ 64)) % 2 ^ 64
 
 abbrev pub crossed : ℕ → ℕ → ℕ
-crossed mask b = bitXor b (mask % 2 ^ 64)
+crossed mask b = bit_xor b (mask % 2 ^ 64)

@@ -1,7 +1,8 @@
 //! An engine around another that counts its cycles.
-ghost use mathlib.Core.Path.{_≡_};
-ghost use Prim.Native.Nat.{_+_, _%_, _^_};
-ghost use Rattle·engines.specs.Machines.{answered, turned};
+ghost use Rattle.std.specs.Prelude.{◌≡◌, ◌+◌, ◌%◌, ◌^◌};
+ghost use Rattle.engines.specs.Machines.{answered, turned};
+ghost use Rattle.std.proofs.Common.{rules};
+
 use cipher::Block;
 use engines::engine::Engine;
 use engines::work::Work;
@@ -15,23 +16,29 @@ pub struct Counted<E> {
 
 impl<E> Counted<E> {
     pub fn new(inner: E) -> Self
-        ensures { λ r. ⌜ r ≡ record { inner = inner; cycles = 0 } ⌝ }
+        ensures { result ≡ record { inner = inner; cycles = 0 } }
     {
         Counted { inner, cycles: 0 }
     }
 
     /// How many cycles it was clocked.
     pub fn cycles(&self) -> u64
-        ensures { λ r. ⌜ r ≡ now (self .entry) .cycles ⌝ }
+        ensures { result ≡ self.now.cycles }
     {
         self.cycles
     }
 }
 
-pub impl<E: Engine> Engine for Counted<E> as CountedEngine {
+impl<E: Engine> Engine for Counted<E> {
     const DEPTH: usize = E::DEPTH;
 
-    ghost machine = { λ e. E·Engine .machine (e .inner) };
+    ghost machine = { λ e. E.Engine.machine e.inner };
+
+    ghost undo = { Prim.search rules };
+
+    ghost places = { Prim.search rules };
+
+    ghost shallow = { Prim.search rules };
 
     // The constant of the inner engine says nothing to a proof; the inner engine itself does.
     fn depth_of(&self) -> usize {
@@ -39,9 +46,9 @@ pub impl<E: Engine> Engine for Counted<E> as CountedEngine {
     }
 
     fn clock(&mut self, input: Option<Work>) -> Option<Block>
-        ensures answer { λ r. ⌜ r ≡ answered (E·Engine .machine (now (self .entry) .inner)) input ⌝ }
-        ensures after { λ _. ⌜ E·Engine .machine (now (self .exit) .inner) ≡ turned (E·Engine .machine (now (self .entry) .inner)) input ⌝ }
-        ensures counted { λ _. ⌜ now (self .exit) .cycles ≡ (now (self .entry) .cycles + 1) % 2 ^ 64 ⌝ }
+        ensures answer { result ≡ answered (E.Engine.machine self.old.inner) input }
+        ensures after { E.Engine.machine self.new.inner ≡ turned (E.Engine.machine self.old.inner) input }
+        ensures counted { self.new.cycles ≡ (self.old.cycles + 1) % 2 ^ 64 }
     {
         self.cycles = self.cycles.wrapping_add(1);
         self.inner.clock(input)

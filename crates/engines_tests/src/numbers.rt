@@ -1,9 +1,9 @@
 //! Numbers that look random, the same in every run.
-ghost use mathlib.Core.Path.{_≡_};
-ghost use Rattle·engines_tests·specs.Draws.{drawn, next};
+ghost use Rattle.std.specs.Prelude.{◌≡◌};
+ghost use Rattle.engines_tests.specs.Draws.{drawn, next};
+
 use cipher::Block;
-use engines::work::Direction;
-use engines::work::Work;
+use engines::work::{Direction, Work};
 
 /// A linear congruential generator.
 #[derive(Clone, Copy)]
@@ -13,17 +13,18 @@ pub struct Numbers {
 
 impl Numbers {
     pub fn new(seed: u64) -> Self
-        ensures { λ r. ⌜ r ≡ record { state = seed } ⌝ }
+        ensures { result ≡ record { state = seed } }
     {
         Numbers { state: seed }
     }
 
     /// The next state.
     pub fn draw(&mut self) -> u64
-        ensures value { λ r. ⌜ r ≡ next (now (self .entry) .state) ⌝ }
-        ensures after { λ _. ⌜ now (self .exit) ≡ record { state = next (now (self .entry) .state) } ⌝ }
+        ensures value { result ≡ next self.old.state }
+        ensures after { self.new ≡ record { state = next self.old.state } }
     {
-        self.state = self.state
+        self.state = self
+            .state
             .wrapping_mul(6_364_136_223_846_793_005)
             .wrapping_add(1_442_695_040_888_963_407);
         self.state
@@ -31,8 +32,8 @@ impl Numbers {
 
     /// One cycle's input: nothing about every third time, else a block in either direction.
     pub fn input(&mut self) -> Option<Work>
-        ensures value { λ r. ⌜ r ≡ drawn (now (self .entry) .state) ⌝ }
-        ensures after { λ _. ⌜ now (self .exit) ≡ record { state = next (next (now (self .entry) .state)) } ⌝ }
+        ensures value { result ≡ drawn self.old.state }
+        ensures after { self.new ≡ record { state = next (next self.old.state) } }
     {
         let kind = self.draw() >> 60;
         let block: Block = self.draw();

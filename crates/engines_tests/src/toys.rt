@@ -1,7 +1,11 @@
 //! Three ciphers whose functions differ and do not commute.
-ghost use Rattle·engines_tests·specs.Toys.{added, crossed, rotated, rotated-back, taken-off};
-use cipher::Block;
-use cipher::Cipher;
+ghost use Rattle.engines_tests.specs.Toys.{added, crossed, rotated, rotated-back, taken-off};
+ghost use Rattle.std.proofs.Common.{rules, mod-lt, pow_pos};
+ghost use Rattle.std.specs.Prelude.{ℕ, ◌%◌, ◌^◌, ◌<◌, bit_xor};
+ghost use Rattle.std.proofs.lemmas.Nat.{xor_lt};
+ghost use Rattle.engines_tests.specs.CrossedCipherLemmas.{crossed-twice};
+
+use cipher::{Block, Cipher};
 
 /// Turns the block by one byte to the left.
 #[derive(Clone, Copy)]
@@ -19,10 +23,12 @@ pub struct Crossed {
     pub mask: u64,
 }
 
-pub impl Cipher for Rotated as RotatedCipher {
+impl Cipher for Rotated {
     ghost forward = { λ _. rotated };
 
     ghost inverse = { λ _. rotated-back };
+
+    ghost undo = { Prim.search rules };
 
     fn forward(&self, block: Block) -> Block {
         block % 0x0100_0000_0000_0000 * 0x0100 + block / 0x0100_0000_0000_0000
@@ -33,10 +39,12 @@ pub impl Cipher for Rotated as RotatedCipher {
     }
 }
 
-pub impl Cipher for Added as AddedCipher {
-    ghost forward = { λ c. added (c .number) };
+impl Cipher for Added {
+    ghost forward = { λ c. added c.number };
 
-    ghost inverse = { λ c. taken-off (c .number) };
+    ghost inverse = { λ c. taken-off c.number };
+
+    ghost undo = { Prim.search rules };
 
     fn forward(&self, block: Block) -> Block {
         block.wrapping_add(self.number)
@@ -47,10 +55,15 @@ pub impl Cipher for Added as AddedCipher {
     }
 }
 
-pub impl Cipher for Crossed as CrossedCipher {
-    ghost forward = { λ c. crossed (c .mask) };
+impl Cipher for Crossed {
+    ghost forward = { λ c. crossed c.mask };
 
-    ghost inverse = { λ c. crossed (c .mask) };
+    ghost inverse = { λ c. crossed c.mask };
+
+    ghost undo = { λ c.
+        let k = c.mask % 2 ^ 64 in
+        let fits : (b : ℕ) → b < 2 ^ 64 → bit_xor b k < 2 ^ 64 = λ b h. xor_lt 64 b k h (mod-lt c.mask (pow_pos 64)) in
+        record { back = λ b h. crossed-twice b k; forth = λ b h. crossed-twice b k; forward-is-block = fits; inverse-is-block = fits } };
 
     fn forward(&self, block: Block) -> Block {
         block ^ self.mask

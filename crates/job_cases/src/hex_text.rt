@@ -1,6 +1,5 @@
 //! Bytes from hexadecimal.
-use std::alloc::AllocError;
-use std::alloc::Global;
+use std::alloc::{AllocError, Global};
 
 /// The bytes that the capital digits of a text give. Other characters are passed over.
 pub fn bytes_of(heap: Global, text: &str) -> Result<Vec<u8>, AllocError> {

@@ -6,13 +6,12 @@ mod long;
 
 use hex_text::bytes_of;
 use job_text::answering::answer;
-use std::error::AnyError;
 
-fn main(rt: LibcRuntime) -> Result<(), AnyError> {
-    rt.report(run(&rt))
+fn main(rt: HostRuntime) -> anyhow::Result<()> {
+    run(&rt)
 }
 
-fn run(rt: &LibcRuntime) -> Result<(), AnyError> {
+fn run(rt: &HostRuntime) -> anyhow::Result<()> {
     for line in rt.lines(rt.alloc()) {
         show_line(rt, line?.as_str())?;
     }
@@ -21,7 +20,7 @@ fn run(rt: &LibcRuntime) -> Result<(), AnyError> {
 }
 
 /// A line is a name, a colon and a job in hexadecimal; one with no colon is a heading.
-fn show_line(rt: &LibcRuntime, line: &str) -> Result<(), AnyError> {
+fn show_line(rt: &HostRuntime, line: &str) -> anyhow::Result<()> {
     let heap = rt.alloc();
     let Some((name, digits)) = line.split_once(':') else {
         rt.println(line)?;
@@ -29,6 +28,6 @@ fn show_line(rt: &LibcRuntime, line: &str) -> Result<(), AnyError> {
     };
     let job = bytes_of(heap, digits)?;
     let text = answer(heap, job.as_slice())?;
-    print!(rt, "{name}: {text}")?;
+    print!(rt; "{name}: {text}")?;
     Ok(())
 }

@@ -1,44 +1,36 @@
 -- The units in some bytes, one by one.
-use mathlib.Core.Path.{_≡_, sym, ap, _∙_}
-use mathlib.Core.Bool.{false, cond}
-use mathlib.Core.List.{List, []}
-use mathlib.Core.Logic.{⊎-elim}
-use Prim.Native.Nat.{ℕ, zero, suc, _+_, _*_, _/_, _<_, _≤_}
-use native.Mathlib.Omega.{arith}
-use lib.Dec.{ltb, leb}
-use lib.ListN.{length, getD}
-use Rattle·std.specs.declared.option.Option.the-variants.{Some, None}
-use Rattle·std.proofs.shelf.Lists.{getD-append-left, getD-at}
-use Rattle·std.proofs.shelf.Tests.{cases-lt, cond-true, cond-false, lt-ltb, le-ltb, le-leb}
-use Rattle·std.proofs.shelf.Ways.{tells}
-use Rattle·cipher.specs.Bytes.{block-at}
-use Rattle·modes.specs.Values.{blocksIn}
-use Rattle·job_format·specs.UnitBytes.{unit-size, units-in, place}
-use Rattle·job_format·proofs.Sizes.{length-blocks-in, units-in-counted}
+use Rattle.std.proofs.Common.{◌≡◌, ℕ, zero, suc, ◌+◌, ◌*◌, ◌/◌, ◌<◌, ◌≤◌, false, cond, ltb, leb, List, [], length, get_or, Some, None, sym, ap, ◌∙◌, ⊎_elim, arith}
+use Rattle.std.proofs.lemmas.List.{get_or_append_left, get_or_at}
+use Rattle.std.proofs.lemmas.Bool.{cases_lt, cond-true, cond-false, lt-ltb, le-ltb, le-leb}
+use Rattle.std.proofs.lemmas.Bool.Decides.{nat_tests}
+use Rattle.cipher.specs.Bytes.{block_at}
+use Rattle.modes.specs.Values.{blocksIn}
+use Rattle.job_format.specs.UnitBytes.{unit_size, units_in, place}
+use Rattle.job_format.proofs.Sizes.{length-blocks-in, units-in-counted}
 
 -- what stands at a place, if anything does
 
-pub placed : (us : List ℕ) (i u : ℕ) → Some u ≡ place us i → (i < length us) × (u ≡ getD us i 0)
-placed us i u e = (grind (arith, tells), grind (arith, tells))
+pub placed : (us : List ℕ) (i u : ℕ) → Some u ≡ place us i → (i < length us) × (u ≡ get_or us i 0)
+placed us i u e = (grind (arith, nat_tests), grind (arith, nat_tests))
 
 pub not-placed : (us : List ℕ) (i : ℕ) → None ≡ place us i → length us ≤ i
-not-placed us i e = grind (arith, tells)
+not-placed us i e = grind (arith, nat_tests)
 
 -- the units in some bytes
 
-pub none-behind : (w : ℕ) (bytes : List ℕ) (i : ℕ) → length bytes / unit-size w ≤ i → None ≡ place (units-in w bytes) i
-none-behind w bytes i l = sym (cond-false _ _ _ (le-ltb i (length (units-in w bytes)) (omega (arith, units-in-counted w bytes))))
+pub none-behind : (w : ℕ) (bytes : List ℕ) (i : ℕ) → length bytes / unit_size w ≤ i → None ≡ place (units_in w bytes) i
+none-behind w bytes i l = sym (cond-false _ _ _ (le-ltb i (length (units_in w bytes)) (omega (arith, units-in-counted w bytes))))
 
-block-among : (n : ℕ) (bs : List ℕ) (i : ℕ) → i < n → getD (blocksIn n bs) i 0 ≡ block-at bs (8 * i)
+block-among : (n : ℕ) (bs : List ℕ) (i : ℕ) → i < n → get_or (blocksIn n bs) i 0 ≡ block_at bs (8 * i)
 block-among zero bs i l = absurd (omega arith)
 block-among (suc n) bs i l =
-    ⊎-elim
-    (λ below. getD-append-left (blocksIn n bs) _ 0 i (omega (arith, length-blocks-in n bs)) ∙ block-among n bs i below)
-    (λ last. let e : n ≡ i = omega arith in getD-at (blocksIn n bs) _ [] 0 i (length-blocks-in n bs ∙ e) ∙ ap (λ (x : ℕ). block-at bs (8 * x)) e)
-    (cases-lt i n)
+    ⊎_elim
+    (λ below. get_or_append_left (blocksIn n bs) _ 0 i (omega (arith, length-blocks-in n bs)) ∙ block-among n bs i below)
+    (λ last. let e : n ≡ i = omega arith in get_or_at (blocksIn n bs) _ [] 0 i (length-blocks-in n bs ∙ e) ∙ ap (λ (x : ℕ). block_at bs (8 * x)) e)
+    (cases_lt i n)
 
-pub block-placed : (w : ℕ) (bytes : List ℕ) (i : ℕ) → 64 ≤ w → i < length bytes / unit-size w
-    → cond (leb (8 * i + 8) (length bytes)) (Some (block-at bytes (8 * i))) None ≡ place (units-in w bytes) i
+pub block-placed : (w : ℕ) (bytes : List ℕ) (i : ℕ) → 64 ≤ w → i < length bytes / unit_size w
+    → cond (leb (8 * i + 8) (length bytes)) (Some (block_at bytes (8 * i))) None ≡ place (units_in w bytes) i
 block-placed w bytes i wide l =
     let e : ltb w 64 ≡ false = le-ltb w 64 wide in
     let below : i < length bytes / 8 = rw e at l in

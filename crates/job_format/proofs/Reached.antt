@@ -1,18 +1,12 @@
 -- How far a job was read: what the reader holds is the job, and what reading the rest of it comes to.
-use mathlib.Core.Path.{_≡_, refl, sym, _∙_}
-use mathlib.Core.List.{List}
-use Prim.Native.Nat.{ℕ}
-use denote.Ref.{now}
-use Rattle·std.specs.Results.{ErrBy}
-use Rattle·std.specs.declared.result.Result.{Result}
-use Rattle·std.specs.declared.result.Result.the-variants.{Ok, Err}
-use Rattle·refusals.specs.declared.Refusal.{Refusal}
-use Rattle·job_format·specs.declared.tag.Tag.{Tag}
-use Rattle·job_format·specs.declared.reader.Field.{Field}
-use Rattle·job_format·specs.declared.reader.Reader.{Reader}
-use Rattle·job_format·specs.declared.fields.Fields.{Fields}
-use Rattle·job_format·specs.Reading.{Found, field-at, found}
-use Rattle·job_format·specs.Fields.{Parts, and-then, fields-of, parts-of}
+use Rattle.std.proofs.Common.{◌≡◌, ℕ, List, IsErrAnd, Ok, Err, Result, sym, refl, ◌∙◌}
+use Rattle.refusals.specs.declared.Refusal.{Refusal}
+use Rattle.job_format.specs.declared.tag.Tag.{Tag}
+use Rattle.job_format.specs.declared.reader.Field.{Field}
+use Rattle.job_format.specs.declared.reader.Reader.{Reader}
+use Rattle.job_format.specs.declared.fields.Fields.{Fields}
+use Rattle.job_format.specs.Reading.{Found, field_at, found}
+use Rattle.job_format.specs.Fields.{Parts, and_then, fields-of, parts-of}
 
 pub record Reached (job held : List ℕ) (rest : Result Parts Refusal) : Type 0 where
   pub same : held ≡ job
@@ -23,17 +17,17 @@ started same = record { same = same; comes-to = refl }
 
 -- what the reader answers next, at offset p
 module _ {A : Type 0} (read : List ℕ → ℕ → Result A Refusal) (on : A → Result Parts Refusal) {job held : List ℕ} {p q : ℕ} (here : p ≡ q)
-    (reached : Reached job held (and-then (read job q) on)) where
-  pub answered : {r : Result A Refusal} → r ≡ read held p → fields-of job ≡ and-then r on
-  answered is = reached .comes-to ∙ rw (← reached .same, ← here, ← is)
+    (reached : Reached job held (and_then (read job q) on)) where
+  pub answered : {r : Result A Refusal} → r ≡ read held p → fields-of job ≡ and_then r on
+  answered is = reached.comes-to ∙ rw (← reached.same, ← here, ← is)
 
-  pub refused : {e : Refusal} (r : Result Fields Refusal) → Err e ≡ read held p → ErrBy r (λ y. y ≡ e) → parts-of r ≡ fields-of job
+  pub refused : {e : Refusal} (r : Result Fields Refusal) → Err e ≡ read held p → IsErrAnd r (λ y. y ≡ e) → parts-of r ≡ fields-of job
   refused (Err y) is by = rw by (sym (answered is))
   refused (Ok f) is by = absurd by
 
 -- one field on
-pub goes-on : (due : Tag) (on : Found → Result Parts Refusal) {job held : List ℕ} {p q : ℕ} → p ≡ q
-    → Reached job held (and-then (field-at due job q) on) → (field : Field) (reader : Reader) → now (reader .job) ≡ held
-    → found (Ok field) (reader .at) ≡ field-at due held p → Reached job (now (reader .job)) (and-then (found (Ok field) (reader .at)) on)
-goes-on due on here reached field reader same is =
-    record { same = same ∙ reached .same; comes-to = answered (field-at due) on here reached is }
+pub goes_on : (due : Tag) (on : Found → Result Parts Refusal) {job held : List ℕ} {p q : ℕ} → p ≡ q
+    → Reached job held (and_then (field_at due job q) on) → (field : Field) (reader : Reader) → reader.job.now ≡ held
+    → found (Ok field) reader.at ≡ field_at due held p → Reached job reader.job.now (and_then (found (Ok field) reader.at) on)
+goes_on due on here reached field reader same is =
+    record { same = same ∙ reached.same; comes-to = answered (field_at due) on here reached is }

@@ -1,18 +1,12 @@
 -- The five fields of a job, read and written.
-use mathlib.Core.Path.{_≡_}
-use mathlib.Core.List.{List, _∷_, _++_}
-use Prim.Native.Nat.{ℕ, _/_, _%_, _<_}
-use lib.ListN.{length}
-use denote.Ref.{now}
-use Rattle·std.specs.declared.result.Result.{Result}
-use Rattle·std.specs.declared.result.Result.the-variants.{Ok, Err}
-use Rattle·refusals.specs.declared.Refusal.{Refusal}
-use Rattle·modes.specs.Values.{Units}
-use Rattle·job_format·specs.declared.tag.Tag.{Tag}
-use Rattle·job_format·specs.declared.tag.Tag.the-variants.{Keys, Code, Direction, InitialValues, Data}
-use Rattle·job_format·specs.declared.fields.Fields.{Fields}
-use Rattle·job_format·specs.Tags.{tag-number}
-use Rattle·job_format·specs.Reading.{field-at, end-at}
+use Rattle.std.specs.Prelude.{◌≡◌, ℕ, ◌/◌, ◌%◌, ◌<◌, List, ◌∷◌, ◌++◌, length, Ok, Err, Result}
+use Rattle.refusals.specs.declared.Refusal.{Refusal}
+use Rattle.modes.specs.Values.{Units}
+use Rattle.job_format.specs.declared.tag.Tag.{Tag}
+use Rattle.job_format.specs.declared.tag.Tag.TheVariants.{Keys, Code, Direction, InitialValues, Data}
+use Rattle.job_format.specs.declared.fields.Fields.{Fields}
+use Rattle.job_format.specs.Tags.{tag-number}
+use Rattle.job_format.specs.Reading.{field_at, end-at}
 
 -- what the five fields hold
 pub record Parts : Type 0 where
@@ -23,27 +17,27 @@ pub record Parts : Type 0 where
   pub «data» : List ℕ
 
 -- a refusal ends it, else it goes on with what was found
-abbrev pub and-then : {A B : Type 0} → Result A Refusal → (A → Result B Refusal) → Result B Refusal
-and-then (Ok x) on = on x
-and-then (Err e) on = Err e
+abbrev pub and_then : {A B : Type 0} → Result A Refusal → (A → Result B Refusal) → Result B Refusal
+and_then (Ok x) on = on x
+and_then (Err e) on = Err e
 
 abbrev pub fields-of : List ℕ → Result Parts Refusal
 fields-of job =
-    and-then (field-at Keys job 0) (λ keys.
-    and-then (field-at Code job (keys .after)) (λ code.
-    and-then (field-at Direction job (code .after)) (λ direction.
-    and-then (field-at InitialValues job (direction .after)) (λ values.
-    and-then (field-at Data job (values .after)) (λ last.
-    and-then (end-at job (last .after)) (λ _.
-    Ok (record { keys = keys .bytes; code = code .bytes; direction = direction .bytes; initial-values = values .bytes; «data» = last .bytes })))))))
+    and_then (field_at Keys job 0) (λ keys.
+    and_then (field_at Code job keys.after) (λ code.
+    and_then (field_at Direction job code.after) (λ direction.
+    and_then (field_at InitialValues job direction.after) (λ values.
+    and_then (field_at Data job values.after) (λ last.
+    and_then (end-at job last.after) (λ _.
+    Ok (record { keys = keys.bytes; code = code.bytes; direction = direction.bytes; initial-values = values.bytes; «data» = last.bytes })))))))
 
 -- what the reader's fields hold, and its answer
-abbrev pub parts-in : Fields → Parts
-parts-in f =
-    record { keys = now (f .keys); code = now (f .code); direction = now (f .direction); initial-values = now (f .«initial_values»); «data» = now (f .«data») }
+abbrev pub parts_in : Fields → Parts
+parts_in f =
+    record { keys = f.keys.now; code = f.code.now; direction = f.direction.now; initial-values = f.initial_values.now; «data» = f.«data».now }
 
 abbrev pub parts-of : Result Fields Refusal → Result Parts Refusal
-parts-of (Ok f) = Ok (parts-in f)
+parts-of (Ok f) = Ok (parts_in f)
 parts-of (Err e) = Err e
 
 -- ---- the format, as a job is written
@@ -56,15 +50,15 @@ field-bytes tag bytes = tag-number tag ∷ length bytes / 256 ∷ length bytes %
 
 abbrev pub job-bytes : Parts → List ℕ
 job-bytes p =
-    field-bytes Keys (p .keys) ++ field-bytes Code (p .code) ++ field-bytes Direction (p .direction)
-    ++ field-bytes InitialValues (p .initial-values) ++ field-bytes Data (p .«data»)
+    field-bytes Keys p.keys ++ field-bytes Code p.code ++ field-bytes Direction p.direction
+    ++ field-bytes InitialValues p.initial-values ++ field-bytes Data p.«data»
 
 -- bytes, no more than two bytes can count
 abbrev pub Fits : List ℕ → Type 0
 Fits bytes = (length bytes < 65536) × Bytes bytes
 
 abbrev pub Fitting : Parts → Type 0
-Fitting p = Fits (p .keys) × Fits (p .code) × Fits (p .direction) × Fits (p .initial-values) × Fits (p .«data»)
+Fitting p = Fits p.keys × Fits p.code × Fits p.direction × Fits p.initial-values × Fits p.«data»
 
 -- what was written is bytes and is read, and nothing else is read
 pub record Format : Type 0 where

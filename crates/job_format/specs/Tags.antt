@@ -1,7 +1,7 @@
 -- The bytes that stand for the tags.
-use Prim.Native.Nat.{ℕ}
-use Rattle·job_format·specs.declared.tag.Tag.{Tag}
-use Rattle·job_format·specs.declared.tag.Tag.the-variants.{Keys, Code, Direction, InitialValues, Data}
+use Rattle.std.specs.Prelude.{ℕ}
+use Rattle.job_format.specs.declared.tag.Tag.{Tag}
+use Rattle.job_format.specs.declared.tag.Tag.TheVariants.{Keys, Code, Direction, InitialValues, Data}
 
 abbrev pub tag-number : Tag → ℕ
 tag-number Keys = 1

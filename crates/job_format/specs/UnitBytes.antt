@@ -1,29 +1,22 @@
 -- Units in bytes. A unit as wide as a block takes eight bytes, the highest first; a narrower one takes one byte.
-use mathlib.Core.Path.{_≡_}
-use mathlib.Core.Bool.{cond}
-use mathlib.Core.List.{List, [], _∷_, _++_}
-use Prim.Native.Nat.{ℕ, _+_, _-_, _/_, _%_, _^_}
-use lib.Dec.{ltb, leb}
-use lib.ListN.{length, getD, take, drop}
-use Rattle·std.specs.Joined.{joined}
-use Rattle·std.specs.declared.option.Option.{Option}
-use Rattle·std.specs.declared.option.Option.the-variants.{Some, None}
-use Rattle·modes.specs.declared.mode.Mode.{Mode}
-use Rattle·modes.specs.Table.{row}
-use Rattle·modes.specs.Values.{blocksIn, Units}
-use Rattle·job_format·specs.Fields.{Bytes}
+use Rattle.std.specs.Prelude.{◌≡◌, ℕ, ◌+◌, ◌-◌, ◌/◌, ◌%◌, ◌^◌, cond, List, [], ◌∷◌, ◌++◌, length, take, drop, Some, None, Option, nat_le, nat_lt, slice_index}
+use Rattle.std.specs.List.{flat_map}
+use Rattle.modes.specs.declared.mode.Mode.{Mode}
+use Rattle.modes.specs.Table.{row}
+use Rattle.modes.specs.Values.{blocksIn, Units}
+use Rattle.job_format.specs.Fields.{Bytes}
 
 -- how many bytes a unit of w bits takes
-abbrev pub unit-size : ℕ → ℕ
-unit-size w = cond (ltb w 64) 1 8
+abbrev pub unit_size : ℕ → ℕ
+unit_size w = cond (nat_lt w 64) 1 8
 
 -- the whole units that lie in some bytes
-abbrev pub units-in : ℕ → List ℕ → List ℕ
-units-in w bytes = cond (ltb w 64) bytes (blocksIn (length bytes / 8) bytes)
+abbrev pub units_in : ℕ → List ℕ → List ℕ
+units_in w bytes = cond (nat_lt w 64) bytes (blocksIn (length bytes / 8) bytes)
 
 -- what stands at a place of a list, if it is that long
 abbrev pub place : List ℕ → ℕ → Option ℕ
-place us i = cond (ltb i (length us)) (Some (getD us i 0)) None
+place us i = cond (nat_lt i (length us)) (Some (slice_index us i)) None
 
 -- the eight bytes of a number, the highest first
 abbrev pub eight-bytes : ℕ → List ℕ
@@ -37,11 +30,11 @@ last-bytes n u = drop (8 - n) (eight-bytes u)
 
 -- the bytes of a unit of w bits
 abbrev pub bytes-of-unit : ℕ → ℕ → List ℕ
-bytes-of-unit w u = last-bytes (unit-size w) u
+bytes-of-unit w u = last-bytes (unit_size w) u
 
 -- the bytes of some units, one behind the other
-abbrev pub bytes-of : ℕ → List ℕ → List ℕ
-bytes-of w us = joined (bytes-of-unit w) us
+abbrev pub bytes_of : ℕ → List ℕ → List ℕ
+bytes_of w us = flat_map (bytes-of-unit w) us
 
 -- a list with some bytes written over it from offset p on
 abbrev pub overwritten : List ℕ → ℕ → List ℕ → List ℕ
@@ -49,14 +42,14 @@ overwritten xs p bytes = take p xs ++ bytes ++ drop (p + length bytes) xs
 
 -- units written from offset p on, where all have room
 abbrev pub units-written : ℕ → (us xs : List ℕ) → ℕ → List ℕ
-units-written w us xs p = cond (leb (p + length (bytes-of w us)) (length xs)) (overwritten xs p (bytes-of w us)) xs
+units-written w us xs p = cond (nat_le (p + length (bytes_of w us)) (length xs)) (overwritten xs p (bytes_of w us)) xs
 
 -- the offset behind them
 abbrev pub written-end : ℕ → (us xs : List ℕ) → ℕ → Option ℕ
-written-end w us xs p = cond (leb (p + length (bytes-of w us)) (length xs)) (Some (p + length (bytes-of w us))) None
+written-end w us xs p = cond (nat_le (p + length (bytes_of w us)) (length xs)) (Some (p + length (bytes_of w us))) None
 
 -- units that were written are read, and whole units are written as they were read
 pub record Units-in-bytes : Type 0 where
-  pub written-are-read : (m : Mode) (us : List ℕ) → Units (row m .width) us → units-in (row m .width) (bytes-of (row m .width) us) ≡ us
-  pub read-are-written : (m : Mode) (bytes : List ℕ) → Bytes bytes → length bytes % unit-size (row m .width) ≡ 0
-      → bytes-of (row m .width) (units-in (row m .width) bytes) ≡ bytes
+  pub written-are-read : (m : Mode) (us : List ℕ) → Units (row m).width us → units_in (row m).width (bytes_of (row m).width us) ≡ us
+  pub read-are-written : (m : Mode) (bytes : List ℕ) → Bytes bytes → length bytes % unit_size (row m).width ≡ 0
+      → bytes_of (row m).width (units_in (row m).width bytes) ≡ bytes

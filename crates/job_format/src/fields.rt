@@ -1,6 +1,7 @@
 //! The five fields of a job.
-ghost use mathlib.Core.Path.{_≡_};
-ghost use Rattle·job_format·specs.Fields.{fields-of, parts-of, Format};
+ghost use Rattle.std.specs.Prelude.{◌≡◌};
+ghost use Rattle.job_format.specs.Fields.{fields-of, parts-of, Format};
+
 use super::reader::Reader;
 use super::tag::Tag;
 use refusals::Refusal;
@@ -18,8 +19,8 @@ pub struct Fields<'a> {
 impl<'a> Fields<'a> {
     /// Reads a job's five fields, behind which nothing may be left. What is read is what was written, and nothing else is read.
     pub fn read(job: &'a [u8]) -> Result<Fields<'a>, Refusal>
-        ensures value { λ r. ⌜ parts-of r ≡ fields-of (now (job .entry)) ⌝ }
-        ensures format { λ _. ⌜ Format ⌝ }
+        ensures value { parts-of result ≡ fields-of job.now }
+        ensures format { Format }
     {
         let mut reader = Reader::new(job);
         let keys = reader.field(Tag::Keys)?.bytes;

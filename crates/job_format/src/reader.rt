@@ -1,9 +1,8 @@
 //! A reader that walks the caller's bytes and copies none of them.
 pub mod reading;
 
-ghost use denote.Ref.{now};
-ghost use Prim.Native.Nat.{_≤_};
-ghost use lib.ListN.{length};
+ghost use Rattle.std.specs.Prelude.{◌≤◌, length};
+
 use super::tag::Tag;
 
 /// A field: its tag and its part of the job's bytes.
@@ -18,5 +17,5 @@ pub struct Field<'a> {
 pub struct Reader<'a> {
     job: &'a [u8],
     at: usize,
-    ghost within: { at ≤ length (now job) },
+    ghost within: { at ≤ length job.now },
 }

@@ -1,15 +1,12 @@
 //! Bytes in hexadecimal.
-ghost use mathlib.Core.Path.{_≡_};
-ghost use Prim.Native.Nat.{_<_};
-ghost use Rattle·std.specs.Of.String.{string-bytes};
-ghost use Rattle·std.specs.Vec.{made};
-ghost use Rattle·job_text·specs.Texts.{digit-of, hexadecimal-of};
-use std::alloc::AllocError;
-use std::alloc::Global;
+ghost use Rattle.std.specs.Prelude.{◌≡◌, ◌<◌, IfOk, string_bytes};
+ghost use Rattle.job_text.specs.Texts.{digit-of, hexadecimal-of};
+
+use std::alloc::{AllocError, Global};
 
 /// Two capital digits for each byte, the high one first; an error only for want of memory.
 pub fn hexadecimal(heap: Global, bytes: &[u8]) -> Result<String, AllocError>
-    ensures { λ r. ⌜ made r (λ s. string-bytes s ≡ hexadecimal-of (now (bytes .entry))) ⌝ }
+    ensures { IfOk result (λ s. string_bytes s ≡ hexadecimal-of bytes.now) }
 {
     let mut text = String::new(heap);
     for byte in bytes {
@@ -21,9 +18,9 @@ pub fn hexadecimal(heap: Global, bytes: &[u8]) -> Result<String, AllocError>
 
 /// The digit of a number below 16.
 fn digit(value: u8) -> char
-    requires { ⌜ value < 16 ⌝ }
-    ensures value { λ r. ⌜ r ≡ digit-of value ⌝ }
-    ensures ascii { λ r. ⌜ r < 128 ⌝ }
+    requires { value < 16 }
+    ensures value { result ≡ digit-of value }
+    ensures ascii { result < 128 }
 {
     const DIGITS: [u8; 16] = *b"0123456789ABCDEF";
     DIGITS[usize::from(value)] as char

@@ -1,39 +1,29 @@
 -- What it means that data is checked.
-use mathlib.Core.Path.{_≡_, refl, sym, ap, _∙_}
-use mathlib.Core.Bool.{Bool, true, false, cond}
-use mathlib.Core.List.{List}
-use Prim.Native.Nat.{ℕ, _%_, _≤_, _<_}
-use native.Mathlib.Omega.{arith}
-use lib.Dec.{eqb, ltb}
-use lib.ListN.{length}
-use Rattle·std.proofs.shelf.Tests.{cond-true, cond-false, lt-ltb, le-ltb, ltb-false, eq-eqb, eqb-true}
-use Rattle·std.specs.declared.option.Option.{Option}
-use Rattle·std.specs.declared.option.Option.the-variants.{Some, None}
-use Rattle·std.specs.declared.result.Result.{Result}
-use Rattle·std.specs.declared.result.Result.the-variants.{Ok, Err}
-use Rattle·refusals.specs.declared.Refusal.{Refusal}
-use Rattle·refusals.specs.declared.Refusal.the-variants.{DataLength, PartialUnit, UnitWidth, OutputLength}
-use Rattle·modes.specs.declared.mode.Mode.{Mode}
-use Rattle·modes.specs.Table.{row}
-use Rattle·calls.specs.Due.{first-wide}
-use Rattle·job_format.specs.UnitBytes.{unit-size, units-in}
-use Rattle·jobs·specs.Asking.{data-limit, data-checked}
+use Rattle.std.proofs.Common.{◌≡◌, ℕ, ◌%◌, ◌<◌, ◌≤◌, Bool, true, false, cond, eqb, ltb, List, length, Some, None, Ok, Err, Option, Result, sym, refl, ap, ◌∙◌, arith}
+use Rattle.std.proofs.lemmas.Bool.{cond-true, cond-false, lt-ltb, le-ltb, ltb-false, eq-eqb, eqb-true}
+use Rattle.refusals.specs.declared.Refusal.{Refusal}
+use Rattle.refusals.specs.declared.Refusal.TheVariants.{DataLength, PartialUnit, UnitWidth, OutputLength}
+use Rattle.modes.specs.declared.mode.Mode.{Mode}
+use Rattle.modes.specs.Table.{row}
+use Rattle.calls.specs.Due.{first-wide}
+use Rattle.job_format.specs.UnitBytes.{unit_size, units_in}
+use Rattle.jobs.specs.Asking.{data-limit, data-checked}
 
 -- data that passes
 pub record Passing (m : Mode) (bytes : List ℕ) (room : ℕ) : Type 0 where
   pub few : length bytes ≤ data-limit
-  pub whole : length bytes % unit-size (row m .width) ≡ 0
-  pub narrow : first-wide (row m .width) 0 (units-in (row m .width) bytes) ≡ None
+  pub whole : length bytes % unit_size (row m).width ≡ 0
+  pub narrow : first-wide (row m).width 0 (units_in (row m).width bytes) ≡ None
   pub roomy : length bytes ≤ room
 
 module _ (m : Mode) (bytes : List ℕ) (room : ℕ) where
   abbrev wide : Option ℕ
-  wide = first-wide (row m .width) 0 (units-in (row m .width) bytes)
+  wide = first-wide (row m).width 0 (units_in (row m).width bytes)
 
   abbrev scanned : Option ℕ → Result (Unit {0}) Refusal
   scanned found = elim found [ Some i ↦ Err (UnitWidth i) | None ↦ cond (ltb room (length bytes)) (Err (OutputLength (length bytes))) (Ok tt) ]
 
-  module _ (few : length bytes ≤ data-limit) (whole : length bytes % unit-size (row m .width) ≡ 0) where
+  module _ (few : length bytes ≤ data-limit) (whole : length bytes % unit_size (row m).width ≡ 0) where
     on-to-scan : data-checked m bytes room ≡ scanned wide
     on-to-scan = cond-false _ _ _ (le-ltb data-limit (length bytes) few) ∙ cond-true _ _ _ (eq-eqb _ 0 whole)
 
@@ -48,17 +38,17 @@ module _ (m : Mode) (bytes : List ℕ) (room : ℕ) where
 
   -- no other data passes
   pub passing : data-checked m bytes room ≡ Ok (tt {0}) → Passing m bytes room
-  passing e = all (ltb data-limit (length bytes)) (eqb (length bytes % unit-size (row m .width)) 0) wide (ltb room (length bytes)) refl refl refl refl e
+  passing e = all (ltb data-limit (length bytes)) (eqb (length bytes % unit_size (row m).width) 0) wide (ltb room (length bytes)) refl refl refl refl e
     where
       all : (long whole : Bool) (found : Option ℕ) (short : Bool) → ltb data-limit (length bytes) ≡ long
-          → eqb (length bytes % unit-size (row m .width)) 0 ≡ whole → wide ≡ found → ltb room (length bytes) ≡ short
+          → eqb (length bytes % unit_size (row m).width) 0 ≡ whole → wide ≡ found → ltb room (length bytes) ≡ short
           → cond long (Err (DataLength (length bytes)))
           (cond whole (elim found [ Some i ↦ Err (UnitWidth i) | None ↦ cond short (Err (OutputLength (length bytes))) (Ok tt) ]) (Err (PartialUnit (length bytes))))
           ≡ Ok (tt {0})
           → Passing m bytes room
-      all true whole found short a b c d e = let z : _≡_ {A = ℕ} 0 1 = cc in absurd (omega arith)
-      all false false found short a b c d e = let z : _≡_ {A = ℕ} 0 1 = cc in absurd (omega arith)
-      all false true (Some i) short a b c d e = let z : _≡_ {A = ℕ} 0 1 = cc in absurd (omega arith)
-      all false true None true a b c d e = let z : _≡_ {A = ℕ} 0 1 = cc in absurd (omega arith)
+      all true whole found short a b c d e = let z : ◌≡◌ {A = ℕ} 0 1 = cc in absurd (omega arith)
+      all false false found short a b c d e = let z : ◌≡◌ {A = ℕ} 0 1 = cc in absurd (omega arith)
+      all false true (Some i) short a b c d e = let z : ◌≡◌ {A = ℕ} 0 1 = cc in absurd (omega arith)
+      all false true None true a b c d e = let z : ◌≡◌ {A = ℕ} 0 1 = cc in absurd (omega arith)
       all false true None false a b c d e =
           record { few = ltb-false _ _ a; whole = eqb-true _ _ b; narrow = c; roomy = ltb-false _ _ d }

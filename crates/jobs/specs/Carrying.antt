@@ -1,84 +1,78 @@
 -- A run on its way through the units of a job.
-use mathlib.Core.Path.{_≡_}
-use mathlib.Core.Bool.{true}
-use mathlib.Core.List.{List, [], _∷_, _++_}
-use Prim.Native.Nat.{ℕ, _+_, _*_, _<_, _≤_, _^_}
-use lib.ListN.{length, take, drop}
-use Rattle·std.specs.declared.result.Result.{Result}
-use Rattle·std.specs.declared.result.Result.the-variants.{Ok}
-use Rattle·refusals.specs.declared.Refusal.{Refusal}
-use Rattle·engines.specs.Machines.{Machine}
-use Rattle·modes.specs.declared.mode.Mode.{Mode}
-use Rattle·modes.specs.declared.way.Way.{Way}
-use Rattle·modes.specs.declared.order.Order.{Order}
-use Rattle·modes.specs.Table.{row, distanceOf}
-use Rattle·modes.specs.Values.{listed}
-use Rattle·modes.specs.Orders.{opening}
-use Rattle·modes.specs.Results.{results}
-use Rattle·calls.specs.Limits.{unit-limit}
-use Rattle·calls.specs.Calls.{Calls, new, started, order-of, way-of, taken, handed-out, stretch, ended, count-before}
-use Rattle·runs.specs.declared.frame.Frame.{Frame}
-use Rattle·runs.specs.Stands.{Stands}
-use Rattle·runs.specs.Whole.{cycles-for}
-use Rattle·job_format.specs.UnitBytes.{unit-size, units-in, bytes-of}
-use Rattle·jobs·specs.declared.report.Report.{Report}
-use Rattle·jobs·specs.Asking.{data-checked}
-use Rattle·jobs·specs.Meaning.{done-on, report-of, output-after}
+use Rattle.std.specs.Prelude.{◌≡◌, ℕ, ◌+◌, ◌*◌, ◌^◌, ◌<◌, ◌≤◌, true, List, [], ◌∷◌, ◌++◌, length, take, drop, Ok, Result}
+use Rattle.refusals.specs.declared.Refusal.{Refusal}
+use Rattle.engines.specs.Machines.{Machine}
+use Rattle.modes.specs.declared.mode.Mode.{Mode}
+use Rattle.modes.specs.declared.way.Way.{Way}
+use Rattle.modes.specs.declared.order.Order.{Order}
+use Rattle.modes.specs.Table.{row, distance_of}
+use Rattle.modes.specs.Values.{listed}
+use Rattle.modes.specs.Orders.{opening}
+use Rattle.modes.specs.Results.{results}
+use Rattle.calls.specs.Limits.{unit-limit}
+use Rattle.calls.specs.Calls.{Calls, new, started, order-of, way_of, taken, handed_out, stretch, ended, count-before}
+use Rattle.runs.specs.declared.frame.Frame.{Frame}
+use Rattle.runs.specs.Stands.{Stands}
+use Rattle.runs.specs.Whole.{cycles-for}
+use Rattle.job_format.specs.UnitBytes.{unit_size, units_in, bytes_of}
+use Rattle.jobs.specs.declared.report.Report.{Report}
+use Rattle.jobs.specs.Asking.{data-checked}
+use Rattle.jobs.specs.Meaning.{done_on, report-of, output-after}
 
 -- the first run of a cartridge took the units us and was not drained; what it handed out stands first in the output list, which was xs
 -- before and is ys now, and ends at an offset
 pub record Under-way (mach : Machine) (f : Frame) (order : Order) (way : Way) (us xs ys : List ℕ) (offset : ℕ) : Type 0 where
   pub calls : Calls true
   pub stands : Stands mach f calls
-  pub order-is : order-of calls ≡ order
-  pub way-is : way-of calls ≡ way
+  pub order_is : order-of calls ≡ order
+  pub way-is : way_of calls ≡ way
   pub took : taken calls ≡ us
   pub one-stretch : stretch calls ≡ length us
   pub undrained : ended calls ≡ []
-  pub first-run : count-before calls ≡ 0
-  pub offset-is : offset ≡ length (bytes-of (row (order .mode) .width) (handed-out calls))
-  pub output : ys ≡ bytes-of (row (order .mode) .width) (handed-out calls) ++ drop (length (bytes-of (row (order .mode) .width) (handed-out calls))) xs
+  pub first_run : count-before calls ≡ 0
+  pub offset-is : offset ≡ length (bytes_of (row order.mode).width (handed_out calls))
+  pub output : ys ≡ bytes_of (row order.mode).width (handed_out calls) ++ drop (length (bytes_of (row order.mode).width (handed_out calls))) xs
 
 -- it was drained: all results stand in the output list
 pub record All-out (mach : Machine) (f : Frame) (order : Order) (way : Way) (us xs ys : List ℕ) (offset : ℕ) : Type 0 where
-  pub units : f .taken ≡ length us
-  pub cycles : f .cycles ≡ cycles-for (mach .depth) (distanceOf (order .mode) way) us
+  pub units : f.taken ≡ length us
+  pub cycles : f.cycles ≡ cycles-for mach.depth (distance_of order.mode way) us
   pub all : List ℕ
-  pub all-is : all ≡ bytes-of (row (order .mode) .width) (results (mach .forward) (mach .inverse) (order .mode) way (listed (order .values)) us (length us))
+  pub all-is : all ≡ bytes_of (row order.mode).width (results mach.forward mach.inverse order.mode way (listed order.values) us (length us))
   pub offset-is : offset ≡ length all
   pub output : ys ≡ all ++ drop (length all) xs
 
 -- there is room for the bytes of n units
 abbrev pub Room : Order → ℕ → List ℕ → Type 0
-Room order n xs = unit-size (row (order .mode) .width) * n ≤ length xs
+Room order n xs = unit_size (row order.mode).width * n ≤ length xs
 
 -- one unit more
-abbrev pub Fed-on : (mach mach′ : Machine) (f f′ : Frame) → Mode → (unit offset : ℕ) (ys ys′ : List ℕ) → Result ℕ Refusal → Type 0
-Fed-on mach mach′ f f′ mode unit offset ys ys′ r =
-    (order : Order) (way : Way) (us xs : List ℕ) → order .mode ≡ mode → Under-way mach f order way us xs ys offset
-    → unit < 2 ^ row mode .width → length us + 1 ≤ unit-limit → Room order (length us + 1) xs
-    → (offset′ : ℕ) × (r ≡ Ok offset′) × Under-way mach′ f′ order way (us ++ unit ∷ []) xs ys′ offset′
+abbrev pub Fed-on : (mach mach' : Machine) (f f' : Frame) → Mode → (unit offset : ℕ) (ys ys' : List ℕ) → Result ℕ Refusal → Type 0
+Fed-on mach mach' f f' mode unit offset ys ys' r =
+    (order : Order) (way : Way) (us xs : List ℕ) → order.mode ≡ mode → Under-way mach f order way us xs ys offset
+    → unit < 2 ^ (row mode).width → length us + 1 ≤ unit-limit → Room order (length us + 1) xs
+    → (offset' : ℕ) × (r ≡ Ok offset') × Under-way mach' f' order way (us ++ unit ∷ []) xs ys' offset'
 
 -- the first units of the data, from the start of a new cartridge's run on
-abbrev pub Fed-some : (mach mach′ : Machine) (f f′ : Frame) → Mode → (bytes xs ys : List ℕ) (count offset : ℕ) → Type 0
-Fed-some mach mach′ f f′ mode bytes xs ys count offset =
-    (order : Order) (way : Way) → order .mode ≡ mode → Stands mach f (started order way new) → data-checked mode bytes (length xs) ≡ Ok tt
-    → Under-way mach′ f′ order way (take count (units-in (row mode .width) bytes)) xs ys offset
+abbrev pub Fed-some : (mach mach' : Machine) (f f' : Frame) → Mode → (bytes xs ys : List ℕ) (count offset : ℕ) → Type 0
+Fed-some mach mach' f f' mode bytes xs ys count offset =
+    (order : Order) (way : Way) → order.mode ≡ mode → Stands mach f (started order way new) → data-checked mode bytes (length xs) ≡ Ok tt
+    → Under-way mach' f' order way (take count (units_in (row mode).width bytes)) xs ys offset
 
 -- all of them
-abbrev pub Fed-all : (mach mach′ : Machine) (f f′ : Frame) → Mode → (bytes xs ys : List ℕ) → Result ℕ Refusal → Type 0
-Fed-all mach mach′ f f′ mode bytes xs ys r =
-    (order : Order) (way : Way) → order .mode ≡ mode → Stands mach f (started order way new) → data-checked mode bytes (length xs) ≡ Ok tt
-    → (offset : ℕ) × (r ≡ Ok offset) × Under-way mach′ f′ order way (units-in (row mode .width) bytes) xs ys offset
+abbrev pub Fed-all : (mach mach' : Machine) (f f' : Frame) → Mode → (bytes xs ys : List ℕ) → Result ℕ Refusal → Type 0
+Fed-all mach mach' f f' mode bytes xs ys r =
+    (order : Order) (way : Way) → order.mode ≡ mode → Stands mach f (started order way new) → data-checked mode bytes (length xs) ≡ Ok tt
+    → (offset : ℕ) × (r ≡ Ok offset) × Under-way mach' f' order way (units_in (row mode).width bytes) xs ys offset
 
 -- the drain at the end
-abbrev pub Drained-off : (mach mach′ : Machine) (f f′ : Frame) → Mode → (offset : ℕ) (ys ys′ : List ℕ) → Result ℕ Refusal → Type 0
-Drained-off mach mach′ f f′ mode offset ys ys′ r =
-    (order : Order) (way : Way) (us xs : List ℕ) → order .mode ≡ mode → Under-way mach f order way us xs ys offset → Room order (length us) xs
-    → (offset′ : ℕ) × (r ≡ Ok offset′) × All-out mach′ f′ order way us xs ys′ offset′
+abbrev pub Drained-off : (mach mach' : Machine) (f f' : Frame) → Mode → (offset : ℕ) (ys ys' : List ℕ) → Result ℕ Refusal → Type 0
+Drained-off mach mach' f f' mode offset ys ys' r =
+    (order : Order) (way : Way) (us xs : List ℕ) → order.mode ≡ mode → Under-way mach f order way us xs ys offset → Room order (length us) xs
+    → (offset' : ℕ) × (r ≡ Ok offset') × All-out mach' f' order way us xs ys' offset'
 
 -- the whole of it
 abbrev pub Carried-out : Machine → Frame → Mode → (bytes xs ys : List ℕ) → Result Report Refusal → Type 0
 Carried-out mach f mode bytes xs ys r =
-    (order : Order) (way : Way) → order .mode ≡ mode → Stands mach f (started order way new) → data-checked mode bytes (length xs) ≡ Ok tt
-    → (r ≡ Ok (report-of (done-on mach (opening order) way bytes))) × (ys ≡ output-after (Ok (done-on mach (opening order) way bytes)) xs)
+    (order : Order) (way : Way) → order.mode ≡ mode → Stands mach f (started order way new) → data-checked mode bytes (length xs) ≡ Ok tt
+    → (r ≡ Ok (report-of (done_on mach (opening order) way bytes))) × (ys ≡ output-after (Ok (done_on mach (opening order) way bytes)) xs)

@@ -1,18 +1,12 @@
 -- The keys of a job: eight bytes are one key, on a plain engine over single DEA; 24 are three, on the line.
-use mathlib.Core.Bool.{cond}
-use mathlib.Core.List.{List}
-use Prim.Native.Nat.{ℕ}
-use lib.Dec.{eqb}
-use lib.ListN.{length}
-use Rattle·std.specs.declared.result.Result.{Result}
-use Rattle·std.specs.declared.result.Result.the-variants.{Ok, Err}
-use Rattle·refusals.specs.declared.Refusal.{Refusal}
-use Rattle·cipher.specs.Dea.{dea, dea-inverse, triple-dea, triple-dea-inverse}
-use Rattle·keys.specs.Loading.{single-loaded, bundle-loaded}
-use Rattle·engines.specs.Machines.{Machine, resting}
-use Rattle·job_format.specs.Fields.{and-then}
-use Rattle·jobs·specs.declared.key_set.KeySet.{KeySet}
-use Rattle·jobs·specs.declared.key_set.KeySet.the-variants.{Single, Bundle}
+use Rattle.std.specs.Prelude.{ℕ, cond, List, length, Ok, Err, Result, ◌==◌}
+use Rattle.refusals.specs.declared.Refusal.{Refusal}
+use Rattle.cipher.specs.Dea.{dea, dea-inverse, triple-dea, triple-dea-inverse}
+use Rattle.keys.specs.Loading.{single-loaded, bundle-loaded}
+use Rattle.engines.specs.Machines.{Machine, resting}
+use Rattle.job_format.specs.Fields.{and_then}
+use Rattle.jobs.specs.declared.key_set.KeySet.{KeySet}
+use Rattle.jobs.specs.declared.key_set.KeySet.TheVariants.{Single, Bundle}
 
 -- the word of one key, or those of three
 pub data Words : Type 0 where
@@ -22,13 +16,13 @@ pub data Words : Type 0 where
 -- what a key field loads: any length but 8 is the bundle's to judge
 abbrev pub keys-loaded : List ℕ → Result Words Refusal
 keys-loaded field =
-    cond (eqb (length field) 8) (and-then (single-loaded field) (λ k. Ok (one k)))
-    (and-then (bundle-loaded field) (λ ks. Ok (three (ks .0) (ks .1) (ks .2))))
+    cond (length field == 8) (and_then (single-loaded field) (λ k. Ok (one k)))
+    (and_then (bundle-loaded field) (λ ks. Ok (three ks.0 ks.1 ks.2)))
 
 -- the words of loaded keys
 abbrev pub words-held : KeySet → Words
-words-held (Single k) = one (k .word)
-words-held (Bundle b) = three (b .first .word) (b .second .word) (b .third .word)
+words-held (Single k) = one k.word
+words-held (Bundle b) = three b.first.word b.second.word b.third.word
 
 abbrev pub words-in : Result KeySet Refusal → Result Words Refusal
 words-in (Ok keys) = Ok (words-held keys)

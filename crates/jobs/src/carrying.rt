@@ -1,17 +1,15 @@
 //! The units of a job on their way through a run.
-ghost use mathlib.Core.Path.{_≡_};
-ghost use Rattle·std.specs.Results.{okPart};
-ghost use Rattle·modes.specs.Table.{row};
-ghost use Rattle·runs.specs.Standing.{Same-engine};
-ghost use Rattle·runs.specs.Stands.{of-run};
-ghost use Rattle·job_format.specs.UnitBytes.{units-written, written-end};
-ghost use Rattle·jobs·specs.Carrying.{Fed-on, Fed-all, Drained-off, Carried-out};
+ghost use Rattle.std.specs.Prelude.{◌≡◌};
+ghost use Rattle.std.specs.Result.{result_ok};
+ghost use Rattle.modes.specs.Table.{row};
+ghost use Rattle.runs.specs.Standing.{Same-engine};
+ghost use Rattle.runs.specs.Stands.{of-run};
+ghost use Rattle.job_format.specs.UnitBytes.{units-written, written-end};
+ghost use Rattle.jobs.specs.Carrying.{Fed-on, Fed-all, Drained-off, Carried-out};
+
 use super::report::Report;
-use engines::engine::Engine;
-use engines::engine::GREATEST_DEPTH;
-use job_format::units::unit_at;
-use job_format::units::unit_size;
-use job_format::units::write_units;
+use engines::engine::{Engine, GREATEST_DEPTH};
+use job_format::units::{unit_at, unit_size, write_units};
 use modes::mode::Mode;
 use modes::order::Order;
 use refusals::Refusal;
@@ -19,8 +17,8 @@ use runs::run::Run;
 
 /// Writes units behind those before them. There is room for all, as the data was checked.
 fn hand_on(mode: Mode, units: &[u64], out: &mut [u8], end: usize) -> Result<usize, Refusal>
-    ensures value { λ r. ⌜ okPart r ≡ written-end (row mode .width) (now (units .entry)) (now (out .entry)) end ⌝ }
-    ensures output { λ _. ⌜ now (out .exit) ≡ units-written (row mode .width) (now (units .entry)) (now (out .entry)) end ⌝ }
+    ensures value { result_ok result ≡ written-end (row mode).width units.now out.old end }
+    ensures output { out.new ≡ units-written (row mode).width units.now out.old end }
 {
     let wanted = end.saturating_add(unit_size(mode).saturating_mul(units.len()));
     write_units(mode, units, out, end).ok_or(Refusal::OutputLength(wanted))
@@ -34,8 +32,8 @@ fn feed_unit<E: Engine, W>(
     out: &mut [u8],
     end: usize,
 ) -> Result<usize, Refusal>
-    ensures fed { λ r. ⌜ of-run Fed-on (E·Engine .machine) (now (run .entry)) (now (run .exit)) mode unit end (now (out .entry)) (now (out .exit)) r ⌝ }
-    ensures same { λ _. ⌜ Same-engine (E·Engine .machine (now (run .entry) .engine)) (E·Engine .machine (now (run .exit) .engine)) ⌝ }
+    ensures fed { of-run Fed-on E.Engine.machine run.old run.new mode unit end out.old out.new result }
+    ensures same { Same-engine (E.Engine.machine run.old.engine) (E.Engine.machine run.new.engine) }
 {
     let mut results = [0; GREATEST_DEPTH];
     let given = run.feed(&[unit], &mut results)?;
@@ -49,8 +47,8 @@ fn feed_all<E: Engine, W>(
     data: &[u8],
     out: &mut [u8],
 ) -> Result<usize, Refusal>
-    ensures fed { λ r. ⌜ of-run Fed-all (E·Engine .machine) (now (run .entry)) (now (run .exit)) mode (now («data» .entry)) (now (out .entry)) (now (out .exit)) r ⌝ }
-    ensures same { λ _. ⌜ Same-engine (E·Engine .machine (now (run .entry) .engine)) (E·Engine .machine (now (run .exit) .engine)) ⌝ }
+    ensures fed { of-run Fed-all E.Engine.machine run.old run.new mode «data».now out.old out.new result }
+    ensures same { Same-engine (E.Engine.machine run.old.engine) (E.Engine.machine run.new.engine) }
 {
     let mut end = 0;
     let mut index = 0;
@@ -68,8 +66,8 @@ fn drain_off<E: Engine, W>(
     out: &mut [u8],
     end: usize,
 ) -> Result<usize, Refusal>
-    ensures drained { λ r. ⌜ of-run Drained-off (E·Engine .machine) (now (run .entry)) (now (run .exit)) mode end (now (out .entry)) (now (out .exit)) r ⌝ }
-    ensures same { λ _. ⌜ Same-engine (E·Engine .machine (now (run .entry) .engine)) (E·Engine .machine (now (run .exit) .engine)) ⌝ }
+    ensures drained { of-run Drained-off E.Engine.machine run.old run.new mode end out.old out.new result }
+    ensures same { Same-engine (E.Engine.machine run.old.engine) (E.Engine.machine run.new.engine) }
 {
     let mut results = [0; GREATEST_DEPTH];
     let left = run.drain(&mut results)?;
@@ -83,7 +81,7 @@ fn carry<E: Engine, W>(
     data: &[u8],
     out: &mut [u8],
 ) -> Result<Report, Refusal>
-    ensures { λ r. ⌜ Carried-out (E·Engine .machine (now (run .entry) .engine)) (now (run .entry) .frame) mode (now («data» .entry)) (now (out .entry)) (now (out .exit)) r ⌝ }
+    ensures { Carried-out (E.Engine.machine run.old.engine) run.old.frame mode «data».now out.old out.new result }
 {
     let fed = feed_all(run, mode, data, out)?;
     let bytes = drain_off(run, mode, out, fed)?;
@@ -101,7 +99,7 @@ pub(crate) fn carry_out<E: Engine + Drop, W: Drop>(
     data: &[u8],
     out: &mut [u8],
 ) -> Result<Report, Refusal>
-    ensures { λ r. ⌜ Carried-out (E·Engine .machine (run .engine)) (run .frame) (order .mode) (now («data» .entry)) (now (out .entry)) (now (out .exit)) r ⌝ }
+    ensures { Carried-out (E.Engine.machine run.engine) run.frame order.mode «data».now out.old out.new result }
 {
     let answer = carry(&mut run, order.mode(), data, out);
     drop(run.close());

@@ -1,9 +1,8 @@
 //! The keys of a job.
-ghost use mathlib.Core.Path.{_≡_};
-ghost use lib.ListN.{length, replicate};
-ghost use Rattle·jobs·specs.Keys.{keys-loaded, words-in};
-use keys::KeyBundle;
-use keys::SingleKey;
+ghost use Rattle.std.specs.Prelude.{◌≡◌, length, replicate};
+ghost use Rattle.jobs.specs.Keys.{keys-loaded, words-in};
+
+use keys::{KeyBundle, SingleKey};
 use refusals::Refusal;
 
 /// One loaded key, or three.
@@ -16,7 +15,7 @@ pub(crate) enum KeySet {
 impl KeySet {
     /// Loads the key field of a job from a duplicate of it, since a job's bytes stay as they are.
     pub(crate) fn load(field: &[u8]) -> Result<KeySet, Refusal>
-        ensures { λ r. ⌜ words-in r ≡ keys-loaded (now (field .entry)) ⌝ }
+        ensures { words-in result ≡ keys-loaded field.now }
     {
         match field.len() {
             8 => load_from(field, &mut [0; 8]),
@@ -28,9 +27,9 @@ impl KeySet {
 
 /// Copies the key field into the duplicate and loads it from there. The duplicate is zero afterwards, loaded or refused.
 fn load_from(field: &[u8], duplicate: &mut [u8]) -> Result<KeySet, Refusal>
-    requires { ⌜ length (now duplicate) ≡ length (now field) ⌝ }
-    ensures value { λ r. ⌜ words-in r ≡ keys-loaded (now (field .entry)) ⌝ }
-    ensures zeroed { λ _. ⌜ now (duplicate .exit) ≡ replicate (length (now (duplicate .entry))) 0 ⌝ }
+    requires { length duplicate.old ≡ length field.now }
+    ensures value { words-in result ≡ keys-loaded field.now }
+    ensures zeroed { duplicate.new ≡ replicate (length duplicate.old) 0 }
 {
     duplicate.copy_from_slice(field);
     if duplicate.len() == 8 {

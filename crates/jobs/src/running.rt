@@ -1,23 +1,17 @@
 //! Running a job.
-ghost use mathlib.Core.Path.{_≡_};
-ghost use Prim.Native.Nat.{_≤_};
-ghost use lib.ListN.{length};
-ghost use Rattle·std.specs.Vec.{made};
-ghost use Rattle·std.specs.declared.result.Result.the-variants.{Ok};
-ghost use Rattle·modes.specs.Orders.{opening};
-ghost use Rattle·calls.specs.Theorem.{Theorem};
-ghost use Rattle·jobs·specs.Asking.{data-limit, data-checked, task-asked};
-ghost use Rattle·jobs·specs.Meaning.{done, done-on, meaning, report-of, reported, output-after, Jobs-are-runs, Jobs-restore};
+ghost use Rattle.std.specs.Prelude.{◌≡◌, ◌≤◌, length, IfOk, Ok};
+ghost use Rattle.modes.specs.Orders.{opening};
+ghost use Rattle.calls.specs.Theorem.{Theorem};
+ghost use Rattle.jobs.specs.Asking.{data-limit, data-checked, task-asked};
+ghost use Rattle.jobs.specs.Meaning.{done, done_on, meaning, report-of, reported, output-after, Jobs-are-runs, Jobs-restore};
+
 use super::carrying::carry_out;
 use super::key_set::KeySet;
 use super::report::Report;
 use super::task::Task;
-use cipher::dea::blocks::DeaCipher;
 use engines::engine::Engine;
 use engines::line::Line;
-use engines::line::LineEngine;
 use engines::plain::Plain;
-use engines::plain::PlainEngine;
 use job_format::fields::Fields;
 use modes::order::Order;
 use modes::way::Way;
@@ -27,13 +21,13 @@ use runs::cartridge::Cartridge;
 /// Runs a job: its units are fed in order to one run on a new cartridge, which is drained once, at the end. Writes as many
 /// bytes as the data has, first in the output, and leaves its rest; where it is refused it leaves all of it.
 pub fn run_job(job: &[u8], out: &mut [u8]) -> Result<Report, Refusal>
-    ensures answer { λ r. ⌜ r ≡ reported (meaning (now (job .entry)) (length (now (out .entry)))) ⌝ }
-    ensures output { λ _. ⌜ now (out .exit) ≡ output-after (meaning (now (job .entry)) (length (now (out .entry)))) (now (out .entry)) ⌝ }
-    ensures unchanged { λ _. ⌜ now (job .exit) ≡ now (job .entry) ⌝ }
-    ensures limit { λ r. ⌜ made r (λ t. t .bytes ≤ data-limit) ⌝ }
-    ensures theorem { λ _. ⌜ Theorem ⌝ }
-    ensures runs { λ _. ⌜ Jobs-are-runs ⌝ }
-    ensures restoring { λ _. ⌜ Jobs-restore ⌝ }
+    ensures answer { result ≡ reported (meaning job.now (length out.old)) }
+    ensures output { out.new ≡ output-after (meaning job.now (length out.old)) out.old }
+    ensures unchanged { job.now ≡ job.now }
+    ensures limit { IfOk result (λ t. t.bytes ≤ data-limit) }
+    ensures theorem { Theorem }
+    ensures runs { Jobs-are-runs }
+    ensures restoring { Jobs-restore }
 {
     let fields = Fields::read(job)?;
     let task = Task::check(fields, out.len())?;
@@ -43,9 +37,9 @@ pub fn run_job(job: &[u8], out: &mut [u8]) -> Result<Report, Refusal>
 impl Task {
     /// One key runs on the plain engine over single DEA, three run on the line.
     fn run(self, data: &[u8], out: &mut [u8]) -> Result<Report, Refusal>
-        requires { ⌜ data-checked (self .order .mode) (now «data») (length (now out)) ≡ Ok tt ⌝ }
-        ensures answer { λ r. ⌜ r ≡ Ok (report-of (done (task-asked self (now («data» .entry))))) ⌝ }
-        ensures output { λ _. ⌜ now (out .exit) ≡ output-after (Ok (done (task-asked self (now («data» .entry))))) (now (out .entry)) ⌝ }
+        requires { data-checked self.order.mode «data».now (length out.old) ≡ Ok tt }
+        ensures answer { result ≡ Ok (report-of (done (task-asked self «data».now))) }
+        ensures output { out.new ≡ output-after (Ok (done (task-asked self «data».now))) out.old }
     {
         let Task { keys, order, way } = self;
         match keys {
@@ -70,9 +64,9 @@ fn run_on<E: Engine + Drop>(
     data: &[u8],
     out: &mut [u8],
 ) -> Result<Report, Refusal>
-    requires { ⌜ data-checked (order .mode) (now «data») (length (now out)) ≡ Ok tt ⌝ }
-    ensures answer { λ r. ⌜ r ≡ Ok (report-of (done-on (E·Engine .machine engine) (opening order) way (now («data» .entry)))) ⌝ }
-    ensures output { λ _. ⌜ now (out .exit) ≡ output-after (Ok (done-on (E·Engine .machine engine) (opening order) way (now («data» .entry)))) (now (out .entry)) ⌝ }
+    requires { data-checked order.mode «data».now (length out.old) ≡ Ok tt }
+    ensures answer { result ≡ Ok (report-of (done_on (E.Engine.machine engine) (opening order) way «data».now)) }
+    ensures output { out.new ≡ output-after (Ok (done_on (E.Engine.machine engine) (opening order) way «data».now)) out.old }
 {
     let cartridge = Cartridge::new(engine);
     match way {

@@ -1,16 +1,14 @@
 //! What a job asks for, checked.
-ghost use mathlib.Core.Path.{_≡_};
-ghost use Rattle·std.specs.Vec.{made};
-ghost use Rattle·std.specs.declared.result.Result.the-variants.{Ok};
-ghost use Rattle·modes.specs.Table.{withCode};
-ghost use Rattle·job_format.specs.Fields.{parts-in};
-ghost use Rattle·jobs·specs.Asking.{only-byte, way-named, opened-for, opening-of, order-and-way, data-checked, task-of, task-in};
+ghost use Rattle.std.specs.Prelude.{◌≡◌, IfOk, Ok};
+ghost use Rattle.modes.specs.Table.{with_code};
+ghost use Rattle.job_format.specs.Fields.{parts_in};
+ghost use Rattle.jobs.specs.Asking.{only-byte, way-named, opened-for, opening_of, order-and-way, data-checked, task-of, task-in};
+
 use super::DATA_LIMIT;
 use super::key_set::KeySet;
 use job_format::fields::Fields;
 use job_format::tag::Tag;
-use job_format::units::first_too_wide;
-use job_format::units::unit_size;
+use job_format::units::{first_too_wide, unit_size};
 use modes::mode::Mode;
 use modes::order::Order;
 use modes::way::Way;
@@ -27,8 +25,8 @@ pub(crate) struct Task {
 impl Task {
     /// What the five fields ask for, with so much room for the output.
     pub(crate) fn check(fields: Fields<'_>, room: usize) -> Result<Task, Refusal>
-        ensures value { λ r. ⌜ task-in r (now (fields .entry .«data»)) ≡ task-of (parts-in (fields .entry)) room ⌝ }
-        ensures ready { λ r. ⌜ made r (λ t. data-checked (t .order .mode) (now (fields .entry .«data»)) room ≡ Ok tt) ⌝ }
+        ensures value { task-in result fields.entry.«data».now ≡ task-of (parts_in fields.entry) room }
+        ensures ready { IfOk result (λ t. data-checked t.order.mode fields.entry.«data».now room ≡ Ok tt) }
     {
         let keys = KeySet::load(fields.keys)?;
         let (order, way) = check_opening(fields)?;
@@ -39,7 +37,7 @@ impl Task {
 
 /// The one byte of a field.
 fn only_byte(tag: Tag, field: &[u8]) -> Result<u8, Refusal>
-    ensures { λ r. ⌜ r ≡ only-byte tag (now (field .entry)) ⌝ }
+    ensures { result ≡ only-byte tag field.now }
 {
     if field.len() == 1 {
         Ok(field[0])
@@ -49,7 +47,7 @@ fn only_byte(tag: Tag, field: &[u8]) -> Result<u8, Refusal>
 }
 
 fn way_named(direction: u8) -> Result<Way, Refusal>
-    ensures { λ r. ⌜ r ≡ way-named direction ⌝ }
+    ensures { result ≡ way-named direction }
 {
     match direction {
         1 => Ok(Way::Enciphering),
@@ -60,7 +58,7 @@ fn way_named(direction: u8) -> Result<Way, Refusal>
 
 /// An order and a way. The code is judged first, the initial values last.
 fn open(code: u8, direction: u8, initial_values: &[u8]) -> Result<(Order, Way), Refusal>
-    ensures { λ r. ⌜ order-and-way r ≡ opened-for (withCode code) code direction (now («initial_values» .entry)) ⌝ }
+    ensures { order-and-way result ≡ opened-for (with_code code) code direction initial_values.now }
 {
     if Mode::from_code(code).is_none() {
         return Err(Refusal::UnknownCode(code));
@@ -72,7 +70,7 @@ fn open(code: u8, direction: u8, initial_values: &[u8]) -> Result<(Order, Way), 
 
 /// The order and the way that the fields ask for.
 fn check_opening(fields: Fields<'_>) -> Result<(Order, Way), Refusal>
-    ensures { λ r. ⌜ order-and-way r ≡ opening-of (parts-in (fields .entry)) ⌝ }
+    ensures { order-and-way result ≡ opening_of (parts_in fields.entry) }
 {
     let code = only_byte(Tag::Code, fields.code)?;
     let direction = only_byte(Tag::Direction, fields.direction)?;
@@ -81,7 +79,7 @@ fn check_opening(fields: Fields<'_>) -> Result<(Order, Way), Refusal>
 
 /// That data is whole units of the mode, none too wide, and that there is room for as many bytes.
 fn check_data(mode: Mode, data: &[u8], room: usize) -> Result<(), Refusal>
-    ensures { λ r. ⌜ r ≡ data-checked mode (now («data» .entry)) room ⌝ }
+    ensures { result ≡ data-checked mode «data».now room }
 {
     let length = data.len();
     if length > DATA_LIMIT {

@@ -1,20 +1,12 @@
 -- What loading answers: the refusal, or the words of the keys, each from eight bytes, the highest first.
-use mathlib.Core.Bool.{cond, _&&_}
-use mathlib.Core.List.{List}
-use Prim.Native.Nat.{ℕ}
-use lib.Dec.{eqb}
-use lib.ListN.{length}
-use Rattle·std.specs.Results.{andOther}
-use Rattle·std.specs.declared.option.Option.{Option}
-use Rattle·std.specs.declared.option.Option.the-variants.{Some, None}
-use Rattle·std.specs.declared.result.Result.{Result}
-use Rattle·std.specs.declared.result.Result.the-variants.{Ok, Err}
-use Rattle·refusals.specs.declared.Refusal.{Refusal}
-use Rattle·refusals.specs.declared.Refusal.the-variants.{KeyLength, KeyParity, SameKeys}
-use Rattle·cipher.specs.Bytes.{block-at}
-use Rattle·keys·specs.declared.SingleKey.{SingleKey}
-use Rattle·keys·specs.declared.KeyBundle.{KeyBundle}
-use Rattle·keys·specs.Parity.{first-even}
+use Rattle.std.specs.Prelude.{ℕ, cond, ◌&&◌, List, length, Some, None, Ok, Err, Option, Result, ◌==◌}
+use Rattle.std.specs.Result.{result_and}
+use Rattle.refusals.specs.declared.Refusal.{Refusal}
+use Rattle.refusals.specs.declared.Refusal.TheVariants.{KeyLength, KeyParity, SameKeys}
+use Rattle.cipher.specs.Bytes.{block_at}
+use Rattle.keys.specs.declared.SingleKey.{SingleKey}
+use Rattle.keys.specs.declared.KeyBundle.{KeyBundle}
+use Rattle.keys.specs.Parity.{first-even}
 
 -- refused for an even byte, if there is one
 abbrev pub parity-checked : Option ℕ → Result (Unit {0}) Refusal
@@ -23,23 +15,23 @@ parity-checked None = Ok tt
 
 -- the length first, then the parity
 abbrev pub checked : ℕ → List ℕ → Result (Unit {0}) Refusal
-checked n bs = cond (eqb (length bs) n) (parity-checked (first-even 0 bs)) (Err (KeyLength (length bs)))
+checked n bs = cond (length bs == n) (parity-checked (first-even 0 bs)) (Err (KeyLength (length bs)))
 
 abbrev pub single-loaded : List ℕ → Result ℕ Refusal
-single-loaded bs = andOther (checked 8 bs) (Ok (block-at bs 0))
+single-loaded bs = result_and (checked 8 bs) (Ok (block_at bs 0))
 
 -- three words, unless all are the same
 abbrev pub joined : ℕ → ℕ → ℕ → Result (ℕ × ℕ × ℕ) Refusal
-joined a b c = cond (eqb a b && eqb b c) (Err SameKeys) (Ok (a, b, c))
+joined a b c = cond (a == b && b == c) (Err SameKeys) (Ok (a, b, c))
 
 abbrev pub bundle-loaded : List ℕ → Result (ℕ × ℕ × ℕ) Refusal
-bundle-loaded bs = andOther (checked 24 bs) (joined (block-at bs 0) (block-at bs 8) (block-at bs 16))
+bundle-loaded bs = result_and (checked 24 bs) (joined (block_at bs 0) (block_at bs 8) (block_at bs 16))
 
 -- what an answer of loading holds
-abbrev pub word-of : Result SingleKey Refusal → Result ℕ Refusal
-word-of (Ok k) = Ok (k .word)
-word-of (Err e) = Err e
+abbrev pub word_of : Result SingleKey Refusal → Result ℕ Refusal
+word_of (Ok k) = Ok k.word
+word_of (Err e) = Err e
 
-abbrev pub words-of : Result KeyBundle Refusal → Result (ℕ × ℕ × ℕ) Refusal
-words-of (Ok b) = Ok (b .first .word, b .second .word, b .third .word)
-words-of (Err e) = Err e
+abbrev pub words_of : Result KeyBundle Refusal → Result (ℕ × ℕ × ℕ) Refusal
+words_of (Ok b) = Ok (b.first.word, b.second.word, b.third.word)
+words_of (Err e) = Err e

@@ -6,8 +6,8 @@ mod parity;
 #[cfg(test)]
 mod tests;
 
-ghost use mathlib.Core.Path.{_≡_};
-ghost use Rattle·keys·specs.Parity.{Odd-bytes};
+ghost use Rattle.std.specs.Prelude.{◌≡◌, ◌≢◌};
+ghost use Rattle.keys.specs.Parity.{Odd-bytes};
 
 /// One loaded key: every byte of its word has an odd count of ones.
 ///
@@ -24,5 +24,5 @@ pub struct KeyBundle {
     first: SingleKey,
     second: SingleKey,
     third: SingleKey,
-    ghost differ: { first .word ≡ second .word → second .word ≡ third .word → ⊥ },
+    ghost differ: { first.word ≡ second.word → second.word ≢ third.word },
 }

@@ -3,7 +3,6 @@ mod tables;
 
 use cipher::Cipher;
 use cipher::dea::Dea;
-use cipher::dea::blocks::DeaCipher;
 use std::io;
 
 /// One stage of the triple example: what goes in and what comes out.
@@ -43,13 +42,13 @@ fn right_answers(answers: &[(u64, u64, u64)]) -> u64 {
     right
 }
 
-fn report(rt: &LibcRuntime, name: &str, answers: &[(u64, u64, u64)]) -> io::Result<()> {
+fn report(rt: &HostRuntime, name: &str, answers: &[(u64, u64, u64)]) -> io::Result<()> {
     let right = right_answers(answers);
     let all = answers.len();
-    println!(rt, "{name}: {right} of {all} right")
+    println!(rt; "{name}: {right} of {all} right")
 }
 
-fn triple_example(rt: &LibcRuntime) -> io::Result<()> {
+fn triple_example(rt: &HostRuntime) -> io::Result<()> {
     let [first, second, third] = TRIPLE_KEYS;
     let (first, second, third) = (Dea::new(first), Dea::new(second), Dea::new(third));
     for stages in &TRIPLE_STAGES {
@@ -59,15 +58,12 @@ fn triple_example(rt: &LibcRuntime) -> io::Result<()> {
         let c = third.forward(b);
         let same = [plain, a, b, c] == *stages;
         let back = first.inverse(second.forward(third.inverse(ciphered))) == plain;
-        println!(
-            rt,
-            "triple {plain:016X} {a:016X} {b:016X} {c:016X} right: {same}, back: {back}"
-        )?;
+        println!(rt; "triple {plain:016X} {a:016X} {b:016X} {c:016X} right: {same}, back: {back}")?;
     }
     Ok(())
 }
 
-fn main(rt: LibcRuntime) -> io::Result<()> {
+fn main(rt: HostRuntime) -> io::Result<()> {
     report(&rt, "variable plaintext", &tables::VARIABLE_PLAINTEXT)?;
     report(&rt, "variable key", &tables::VARIABLE_KEY)?;
     report(&rt, "permutation operation", &tables::PERMUTATION)?;

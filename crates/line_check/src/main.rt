@@ -2,20 +2,14 @@
 mod tally;
 
 use cipher::triple::Triple;
-use cipher::triple::TripleCipher;
 use engines::line::Line;
 use engines::plain::Plain;
 use engines_tests::numbers::Numbers;
-use engines_tests::toys::Added;
-use engines_tests::toys::AddedCipher;
-use engines_tests::toys::Crossed;
-use engines_tests::toys::CrossedCipher;
-use engines_tests::toys::Rotated;
-use engines_tests::toys::RotatedCipher;
+use engines_tests::toys::{Added, Crossed, Rotated};
 use std::io;
 use tally::compared;
 
-fn main(rt: LibcRuntime) -> io::Result<()> {
+fn main(rt: HostRuntime) -> io::Result<()> {
     let added = Added {
         number: 0x0123_4567_89AB_CDEF,
     };
@@ -31,10 +25,7 @@ fn main(rt: LibcRuntime) -> io::Result<()> {
     let mixed = tally.mixed;
     let equal = tally.equal;
     let wrong = tally.wrong;
-    println!(
-        rt,
-        "blocks in: {forward} forward, {inverse} inverse, {gaps} gaps"
-    )?;
-    println!(rt, "cycles with both directions in the line: {mixed}")?;
-    println!(rt, "answers as the triple's: {equal}, others: {wrong}")
+    println!(rt; "blocks in: {forward} forward, {inverse} inverse, {gaps} gaps")?;
+    println!(rt; "cycles with both directions in the line: {mixed}")?;
+    println!(rt; "answers as the triple's: {equal}, others: {wrong}")
 }

@@ -1,18 +1,11 @@
 //! The comparison, cycle by cycle.
-use cipher::Block;
-use cipher::Cipher;
 use cipher::triple::Triple;
-use cipher::triple::TripleCipher;
+use cipher::{Block, Cipher};
 use engines::engine::Engine;
 use engines::line::Line;
-use engines::line::LineEngine;
 use engines::plain::Plain;
-use engines::plain::PlainEngine;
-use engines::table::BlockState;
-use engines::table::Stage;
-use engines::work::Direction;
-use engines::work::DirectionPartialEq;
-use engines::work::Work;
+use engines::table::{BlockState, Stage};
+use engines::work::{Direction, Work};
 use engines_tests::numbers::Numbers;
 
 /// How many there were of each kind. Counts wrap, so that no bound is asked.

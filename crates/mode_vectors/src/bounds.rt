@@ -1,29 +1,27 @@
 //! Calls at the bounds: the last units that a cartridge takes, and an output list with no place.
+use anyhow::anyhow;
 use cipher::dea::Dea;
-use cipher::dea::blocks::DeaCipher;
 use engines::engine::Engine;
 use engines::line::Line;
-use engines::line::LineEngine;
 use modes::order::Order;
 use refusals::Refusal;
 use runs::cartridge::Cartridge;
 use runs::run::EncipheringRun;
-use std::error::AnyError;
 
 /// How many units are fed at once.
 const CHUNK: usize = 4096;
 
 fn print_answer(
-    rt: &LibcRuntime,
+    rt: &HostRuntime,
     what: &str,
     answer: Result<usize, Refusal>,
-) -> Result<(), AnyError> {
+) -> anyhow::Result<()> {
     match answer {
-        Ok(count) => println!(rt, "{what}: {count} handed out")?,
+        Ok(count) => println!(rt; "{what}: {count} handed out")?,
         Err(refusal) => {
             let number = refusal.number();
             let detail = refusal.detail();
-            println!(rt, "{what}: refused {number} {detail}")?;
+            println!(rt; "{what}: refused {number} {detail}")?;
         }
     }
     Ok(())
@@ -88,18 +86,18 @@ fn no_place(order: Order) -> Result<usize, Refusal> {
     answer
 }
 
-pub fn show(rt: &LibcRuntime) -> Result<(), AnyError> {
+pub fn show(rt: &HostRuntime) -> anyhow::Result<()> {
     let Ok(order) = Order::check(1, &[]) else {
-        return Err("the codebook mode is refused".into());
+        return Err(anyhow!("the codebook mode is refused"));
     };
     let near = near_limit(order);
     let taken = near.taken;
     let count = near.count;
-    println!(rt, "units taken: {taken}")?;
+    println!(rt; "units taken: {taken}")?;
     print_answer(rt, "two units more", near.two_more)?;
     print_answer(rt, "one unit more", near.one_more)?;
     print_answer(rt, "another", near.another)?;
-    println!(rt, "count: {count}")?;
+    println!(rt; "count: {count}")?;
     print_answer(
         rt,
         "no units, two inside, no place for output",

@@ -1,14 +1,13 @@
 //! Known values of every mode, sent on the line and received on a plain engine, and the refusals at the bounds.
+
 mod bounds;
 mod vectors;
 
-use std::error::AnyError;
-
-fn main(rt: LibcRuntime) -> Result<(), AnyError> {
-    rt.report(run(&rt))
+fn main(rt: HostRuntime) -> anyhow::Result<()> {
+    run(&rt)
 }
 
-fn run(rt: &LibcRuntime) -> Result<(), AnyError> {
+fn run(rt: &HostRuntime) -> anyhow::Result<()> {
     for code in 1..=11u8 {
         vectors::show_code(rt, code)?;
     }

@@ -1,20 +1,16 @@
 //! A text through each mode.
-ghost use Prim.Native.Nat.{_≤_};
+ghost use Rattle.std.specs.Prelude.{◌≤◌};
+
+use anyhow::anyhow;
 use cipher::bytes::block_at;
 use cipher::dea::Dea;
-use cipher::dea::blocks::DeaCipher;
 use cipher::triple::Triple;
-use cipher::triple::TripleCipher;
 use engines::line::Line;
-use engines::line::LineEngine;
 use engines::plain::Plain;
-use engines::plain::PlainEngine;
 use modes::mode::Mode;
 use modes::order::Order;
 use refusals::Refusal;
-use refusals::RefusalDisplay;
 use runs::cartridge::Cartridge;
-use std::error::AnyError;
 
 /// The three keys.
 const KEYS: [u64; 3] = [
@@ -38,7 +34,7 @@ const UNITS: usize = 16;
 
 /// The text as units of the mode: seven blocks, the first twelve bytes, or the first sixteen bits.
 fn units_of(width: usize) -> ([u64; UNITS], usize)
-    ensures { λ r. ⌜ r .1 ≤ 16 ⌝ }
+    ensures { result.1 ≤ 16 }
 {
     let mut units = [0; UNITS];
     for i in 0..UNITS {
@@ -62,8 +58,8 @@ fn ciphers(keys: [u64; 3]) -> (Dea, Dea, Dea) {
 }
 
 /// What a refusal is, as an error of this program.
-fn failed(rt: &LibcRuntime, refusal: Refusal) -> AnyError {
-    match format!(rt.alloc(), "{refusal}") {
+fn failed(rt: &HostRuntime, refusal: Refusal) -> anyhow::Error {
+    match format!(in rt.alloc(); "{refusal}") {
         Ok(text) => text.into(),
         Err(_) => "refused".into(),
     }
@@ -71,11 +67,11 @@ fn failed(rt: &LibcRuntime, refusal: Refusal) -> AnyError {
 
 /// Units sent on a new line: fed one by one, and drained.
 fn send(
-    rt: &LibcRuntime,
+    rt: &HostRuntime,
     keys: [u64; 3],
     order: Order,
     units: &[u64],
-) -> Result<[u64; UNITS], AnyError> {
+) -> anyhow::Result<[u64; UNITS]> {
     let (first, second, third) = ciphers(keys);
     let mut run = Cartridge::new(Line::new(first, second, third)).start_enciphering(order);
     let mut sent = [0; UNITS];
@@ -116,11 +112,11 @@ fn append(all: &mut [u64; UNITS], given: usize, more: &[u64; UNITS], count: usiz
 
 /// Units received on a new plain engine over the triple, in one feed.
 fn receive(
-    rt: &LibcRuntime,
+    rt: &HostRuntime,
     keys: [u64; 3],
     order: Order,
     units: &[u64],
-) -> Result<[u64; UNITS], AnyError> {
+) -> anyhow::Result<[u64; UNITS]> {
     let (first, second, third) = ciphers(keys);
     let mut run = Cartridge::new(Plain::new(Triple::new(first, second, third))).start_deciphering(
         order,
@@ -134,42 +130,42 @@ fn receive(
     }
 }
 
-fn print_units(rt: &LibcRuntime, width: usize, units: &[u64]) -> Result<(), AnyError> {
+fn print_units(rt: &HostRuntime, width: usize, units: &[u64]) -> anyhow::Result<()> {
     for unit in units {
         match width {
-            64 => print!(rt, " {unit:016X}")?,
-            8 => print!(rt, " {unit:02X}")?,
-            _ => print!(rt, " {unit:X}")?,
+            64 => print!(rt; " {unit:016X}")?,
+            8 => print!(rt; " {unit:02X}")?,
+            _ => print!(rt; " {unit:X}")?,
         }
     }
     Ok(())
 }
 
 fn show(
-    rt: &LibcRuntime,
+    rt: &HostRuntime,
     keys: [u64; 3],
     order: Order,
     units: [u64; UNITS],
     count: usize,
-) -> Result<(), AnyError>
-    requires { ⌜ count ≤ 16 ⌝ }
+) -> anyhow::Result<()>
+    requires { count ≤ 16 }
 {
     let mode = order.mode();
     let code = mode.code();
     let name = mode.name();
     let sent = send(rt, keys, order, &units[0..count])?;
     let received = receive(rt, keys, order, &sent[0..count])?;
-    print!(rt, "{code} {name}:")?;
+    print!(rt; "{code} {name}:")?;
     print_units(rt, mode.width(), &sent[0..count])?;
     let same = &received[0..count] == &units[0..count];
-    println!(rt, ", received again: {same}")?;
+    println!(rt; ", received again: {same}")?;
     Ok(())
 }
 
 /// The text through one mode.
-pub fn show_code(rt: &LibcRuntime, code: u8) -> Result<(), AnyError> {
+pub fn show_code(rt: &HostRuntime, code: u8) -> anyhow::Result<()> {
     let Some(mode) = Mode::from_code(code) else {
-        return Err("no such mode".into());
+        return Err(anyhow!("no such mode"));
     };
     match Order::check(code, &VALUES[0..8 * mode.initial_values()]) {
         Ok(order) => {
@@ -181,7 +177,7 @@ pub fn show_code(rt: &LibcRuntime, code: u8) -> Result<(), AnyError> {
 }
 
 /// The published example of the codebook mode under two keys.
-pub fn show_codebook_example(rt: &LibcRuntime) -> Result<(), AnyError> {
+pub fn show_codebook_example(rt: &HostRuntime) -> anyhow::Result<()> {
     match Order::check(1, &[]) {
         Ok(order) => {
             let (units, _) = units_of(64);

@@ -1,20 +1,15 @@
 -- The schedule: each unit enters in the first cycle in which it may.
-use mathlib.Core.Path.{_≡_, refl, sym, ap, subst, _∙_}
-use mathlib.Core.Logic.{⊎-elim}
-use Prim.Native.Nat.{ℕ, zero, suc, _+_, _-_, _*_, _/_, _<_, _≤_}
-use native.Mathlib.Omega.{arith}
-use native.Mathlib.Nat.{add-div-right, add-mul, div-mul-le-self, div-eq-of-lt, div-zero, one-mul, zero-mul, mul-zero}
-use Rattle·std.proofs.shelf.Bits.{le-div, mul-le}
-use Rattle·std.proofs.shelf.Tests.{cases-lt}
-use Rattle·std.specs.declared.option.Option.{Option}
-use Rattle·std.specs.declared.option.Option.the-variants.{Some, None}
-use Rattle·modes·specs.Schedule.{entry, leaving, cost, May-enter, Schedule}
+use Rattle.std.proofs.Common.{◌≡◌, ℕ, zero, suc, ◌+◌, ◌-◌, ◌*◌, ◌/◌, ◌<◌, ◌≤◌, Some, None, Option, sym, refl, ap, ◌∙◌, subst, ⊎_elim, add-mul, one-mul, mul-zero, zero-mul, div-mul-le_self, arith}
+use native.Mathlib.Nat.{add-div_right, div-eq_of_lt, div-zero}
+use Rattle.std.proofs.lemmas.Nat.{le-div, mul-le}
+use Rattle.std.proofs.lemmas.Bool.{cases_lt}
+use Rattle.modes.specs.Schedule.{entry, leaving, cost, May-enter, Schedule}
 
-pub entry-next : (D : ℕ) (δ : Option ℕ) (j : ℕ) → entry D δ j + 1 ≤ entry D δ (j + 1)
-entry-next D None j = omega arith
-entry-next D (Some zero) j = omega (arith, ap (λ x. x * (D - 0)) (div-zero j ∙ sym (div-zero (j + 1))))
-entry-next D (Some (suc d)) j =
-    let q : j / suc d ≤ (j + 1) / suc d = le-div (j / suc d) (j + 1) (suc d) (omega arith) (omega (arith, div-mul-le-self j (suc d))) in
+pub entry_next : (D : ℕ) (δ : Option ℕ) (j : ℕ) → entry D δ j + 1 ≤ entry D δ (j + 1)
+entry_next D None j = omega arith
+entry_next D (Some zero) j = omega (arith, ap (λ x. x * (D - 0)) (div-zero j ∙ sym (div-zero (j + 1))))
+entry_next D (Some (suc d)) j =
+    let q : j / suc d ≤ (j + 1) / suc d = le-div (j / suc d) (j + 1) (suc d) (omega arith) (omega (arith, div-mul-le_self j (suc d))) in
     omega (arith, mul-le (j / suc d) (D - suc d) ((j + 1) / suc d) (D - suc d) q (omega arith))
 
 pub entry-least : (D : ℕ) (δ : Option ℕ) (j : ℕ) → j ≤ entry D δ j
@@ -23,7 +18,7 @@ entry-least D (Some δ) j = omega arith
 
 -- before its distance, and in an engine no deeper than the distance, a unit waits for none
 pub entry-early : (D δ j : ℕ) → j < δ → entry D (Some δ) j ≡ j
-entry-early D δ j l = ap (λ x. j + x * (D - δ)) (div-eq-of-lt l) ∙ omega (arith, zero-mul (D - δ))
+entry-early D δ j l = ap (λ x. j + x * (D - δ)) (div-eq_of_lt l) ∙ omega (arith, zero-mul (D - δ))
 
 pub entry-flat : (D δ j : ℕ) → D ≤ δ → entry D (Some δ) j ≡ j
 entry-flat D δ j l =
@@ -33,7 +28,7 @@ entry-flat D δ j l =
 -- else a distance on is D cycles on
 pub entry-apart : (D δ i : ℕ) → 0 < δ → δ ≤ D → entry D (Some δ) (i + δ) ≡ entry D (Some δ) i + D
 entry-apart D δ i pos l =
-    let q : (i + δ) / δ ≡ i / δ + 1 = add-div-right i pos in
+    let q : (i + δ) / δ ≡ i / δ + 1 = add-div_right i pos in
     let p : (i / δ + 1) * (D - δ) ≡ i / δ * (D - δ) + (D - δ) = add-mul (i / δ) 1 (D - δ) ∙ ap (λ x. i / δ * (D - δ) + x) (one-mul (D - δ)) in
     ap (λ x. i + δ + x * (D - δ)) q ∙ omega (arith, p)
 
@@ -45,45 +40,45 @@ cost-last D (Some δ) s = let e : s + 1 ≡ suc s = omega arith in ap (cost D (S
 -- a result is out before the unit at its distance enters
 pub leaving-in-time : (D δ i : ℕ) → 0 < δ → 1 ≤ D → leaving D (Some δ) i < entry D (Some δ) (i + δ)
 leaving-in-time D δ i pos deep =
-    ⊎-elim
+    ⊎_elim
     (λ l. rw (entry-flat D δ (i + δ) (omega arith)) (omega (arith, entry-flat D δ i (omega arith))))
     (λ l. rw (entry-apart D δ i pos l) (omega arith))
-    (cases-lt D δ)
+    (cases_lt D δ)
 
 -- in any cycle in which it may enter, its own has come
-pub entry-first : (D : ℕ) (δ : Option ℕ) → 1 ≤ D → (δ ≡ Some 0 → ⊥) → (j t : ℕ) → May-enter D δ j t → entry D δ j ≤ t
-entry-first D None deep ne zero t may = omega arith
-entry-first D None deep ne (suc j) t may = omega (arith, may .in-order j (omega arith))
-entry-first D (Some zero) deep ne j t may = absurd (ne refl)
-entry-first D (Some (suc d)) deep ne j t may =
-    ⊎-elim
+pub entry_first : (D : ℕ) (δ : Option ℕ) → 1 ≤ D → (δ ≡ Some 0 → ⊥) → (j t : ℕ) → May-enter D δ j t → entry D δ j ≤ t
+entry_first D None deep ne zero t may = omega arith
+entry_first D None deep ne (suc j) t may = omega (arith, may.in_order j (omega arith))
+entry_first D (Some zero) deep ne j t may = absurd (ne refl)
+entry_first D (Some (suc d)) deep ne j t may =
+    ⊎_elim
     (λ l. rw (entry-early D (suc d) j l) (in-turn j t may))
-    (λ l. ⊎-elim
+    (λ l. ⊎_elim
     (λ g. rw (entry-flat D (suc d) j (omega arith)) (in-turn j t may))
     (λ g. let e : j - suc d + suc d ≡ j = omega arith in
     let p : entry D (Some (suc d)) j ≡ entry D (Some (suc d)) (j - suc d) + D =
     ap (entry D (Some (suc d))) (sym e) ∙ entry-apart D (suc d) (j - suc d) (omega arith) g in
-    let out : leaving D (Some (suc d)) (j - suc d) < t = may .in-time (suc d) (j - suc d) refl e in
+    let out : leaving D (Some (suc d)) (j - suc d) < t = may.in-time (suc d) (j - suc d) refl e in
     let now : entry D (Some (suc d)) (j - suc d) + D ≤ t = omega arith in
     rw p now)
-    (cases-lt D (suc d)))
-    (cases-lt j (suc d))
+    (cases_lt D (suc d)))
+    (cases_lt j (suc d))
   where
     in-turn : (j t : ℕ) → May-enter D (Some (suc d)) j t → j ≤ t
     in-turn zero t may = omega arith
-    in-turn (suc j) t may = omega (arith, may .in-order j (omega arith), entry-least D (Some (suc d)) j)
+    in-turn (suc j) t may = omega (arith, may.in_order j (omega arith), entry-least D (Some (suc d)) j)
 
 pub schedule : Schedule
 schedule D δ deep ne j =
     record {
       may = record {
-        in-order = λ i e. subst (λ x. entry D δ i < entry D δ x) e (omega (arith, entry-next D δ i));
+        in_order = λ i e. subst (λ x. entry D δ i < entry D δ x) e (omega (arith, entry_next D δ i));
         in-time = λ d i e at.
             subst (λ x. leaving D δ i < entry D δ x) at
             (subst (λ x. leaving D x i < entry D x (i + d)) (sym e)
-            (leaving-in-time D d i (⊎-elim (λ l. l) (λ l. absurd (ne (e ∙ ap Some (omega arith)))) (cases-lt 0 d)) deep));
+            (leaving-in-time D d i (⊎_elim (λ l. l) (λ l. absurd (ne (e ∙ ap Some (omega arith)))) (cases_lt 0 d)) deep));
       };
-      first = entry-first D δ deep ne j;
+      first = entry_first D δ deep ne j;
       ended = cost-last D δ j;
       emptied = omega (arith, cost-last D δ j);
     }

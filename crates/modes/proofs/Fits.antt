@@ -1,21 +1,13 @@
 -- The widths and distances of each family. All that the laws need to know of the table.
-use mathlib.Core.Path.{_≡_, refl, sym, subst, _∙_}
-use mathlib.Core.List.{List, [], _∷_}
-use mathlib.Core.Bool.{Bool, true, _&&_}
-use mathlib.Core.Logic.{⊎-elim}
-use Prim.Native.Nat.{ℕ, zero, suc, _*_, _/_, _^_, _<_, _≤_}
-use native.Mathlib.Omega.{arith}
-use native.Mathlib.Nat.{mul-comm, mul-zero, mul-suc}
-use lib.Dec.{eqb, ltb, leb}
-use Rattle·std.proofs.shelf.Tests.{eqb-true, ltb-true, leb-true, and-parts, cases-bool, cond-true, cond-false}
-use Rattle·std.specs.declared.option.Option.the-variants.{Some}
-use Rattle·modes·specs.declared.family.Family.{Family}
-use Rattle·modes·specs.declared.family.Family.the-variants.{Codebook, Chaining, CipherFeedback, OutputFeedback}
-use Rattle·modes·specs.declared.way.Way.{Way}
-use Rattle·modes·specs.declared.way.Way.the-variants.{Enciphering, Deciphering}
-use Rattle·modes·specs.declared.mode.Mode.{Mode}
-use Rattle·modes·specs.declared.mode.Mode.the-variants.{Ecb, Cbc, CbcInterleaved, Cfb64, Cfb8, Cfb1, CfbPipelined64, CfbPipelined8, CfbPipelined1, Ofb, OfbInterleaved}
-use Rattle·modes·specs.Table.{row, firstWith, modes, distance, distanceOf, Codes-name-modes}
+use Rattle.std.proofs.Common.{◌≡◌, ℕ, zero, suc, ◌*◌, ◌/◌, ◌^◌, ◌<◌, ◌≤◌, Bool, true, ◌&&◌, eqb, ltb, leb, List, [], ◌∷◌, Some, sym, refl, ◌∙◌, subst, ⊎_elim, mul_comm, mul-zero, mul-suc, arith}
+use Rattle.std.proofs.lemmas.Bool.{eqb-true, ltb-true, leb-true, and_parts, cases_Bool, cond-true, cond-false}
+use Rattle.modes.specs.declared.family.Family.{Family}
+use Rattle.modes.specs.declared.family.Family.TheVariants.{Codebook, Chaining, CipherFeedback, OutputFeedback}
+use Rattle.modes.specs.declared.way.Way.{Way}
+use Rattle.modes.specs.declared.way.Way.TheVariants.{Enciphering, Deciphering}
+use Rattle.modes.specs.declared.mode.Mode.{Mode}
+use Rattle.modes.specs.declared.mode.Mode.TheVariants.{Ecb, Cbc, CbcInterleaved, Cfb64, Cfb8, Cfb1, CfbPipelined64, CfbPipelined8, CfbPipelined1, Ofb, OfbInterleaved}
+use Rattle.modes.specs.Table.{row, firstWith, modes, distance, distance_of, Codes-name-modes}
 
 abbrev pub Fit : Family → ℕ → ℕ → Type 0
 Fit Codebook w δ = w ≡ 64
@@ -33,9 +25,9 @@ fits OutputFeedback w δ = eqb w 64 && ltb 0 δ
 
 fits-true : (f : Family) (w δ : ℕ) → fits f w δ ≡ true → Fit f w δ
 fits-true Codebook w δ e = eqb-true w 64 e
-fits-true Chaining w δ e = let p = and-parts _ _ e in (eqb-true w 64 (p .0), ltb-true 0 δ (p .1))
-fits-true CipherFeedback w δ e = let p = and-parts _ _ e in (eqb-true (w * (64 / w)) 64 (p .0), ltb-true 0 δ (p .1))
-fits-true OutputFeedback w δ e = let p = and-parts _ _ e in (eqb-true w 64 (p .0), ltb-true 0 δ (p .1))
+fits-true Chaining w δ e = let p = and_parts _ _ e in (eqb-true w 64 p.0, ltb-true 0 δ p.1)
+fits-true CipherFeedback w δ e = let p = and_parts _ _ e in (eqb-true (w * (64 / w)) 64 p.0, ltb-true 0 δ p.1)
+fits-true OutputFeedback w δ e = let p = and_parts _ _ e in (eqb-true w 64 p.0, ltb-true 0 δ p.1)
 
 -- what is computed for the whole table holds of each mode
 
@@ -43,14 +35,14 @@ abbrev passes : (Mode → Bool) → List Mode → Bool
 passes test [] = true
 passes test (m ∷ ms) = test m && passes test ms
 
-first-passes : (test : Mode → Bool) (code : ℕ) (ms : List Mode) (m : Mode) → firstWith code ms ≡ Some m → passes test ms ≡ true → test m ≡ true
-first-passes test code [] m e h = let z : _≡_ {A = ℕ} 0 1 = cc in absurd (omega arith)
-first-passes test code (n ∷ ms) m e h =
-    let p = and-parts (test n) (passes test ms) h in
-    ⊎-elim
-    (λ t. let same : n ≡ m = let q : Some n ≡ Some m = sym (cond-true _ _ _ t) ∙ e in cc in subst (λ x. test x ≡ true) same (p .0))
-    (λ t. first-passes test code ms m (sym (cond-false _ _ _ t) ∙ e) (p .1))
-    (cases-bool (eqb code (row n .code)))
+first_passes : (test : Mode → Bool) (code : ℕ) (ms : List Mode) (m : Mode) → firstWith code ms ≡ Some m → passes test ms ≡ true → test m ≡ true
+first_passes test code [] m e h = let z : ◌≡◌ {A = ℕ} 0 1 = cc in absurd (omega arith)
+first_passes test code (n ∷ ms) m e h =
+    let p = and_parts (test n) (passes test ms) h in
+    ⊎_elim
+    (λ t. let same : n ≡ m = let q : Some n ≡ Some m = sym (cond-true _ _ _ t) ∙ e in cc in subst (λ x. test x ≡ true) same p.0)
+    (λ t. first_passes test code ms m (sym (cond-false _ _ _ t) ∙ e) p.1)
+    (cases_Bool (eqb code (row n).code))
 
 pub codes-name-modes : Codes-name-modes
 codes-name-modes = elim [
@@ -68,36 +60,36 @@ codes-name-modes = elim [
 ]
 
 pub each-passes : (test : Mode → Bool) → passes test modes ≡ true → (m : Mode) → test m ≡ true
-each-passes test h m = first-passes test (row m .code) modes m (codes-name-modes m) h
+each-passes test h m = first_passes test (row m).code modes m (codes-name-modes m) h
 
-pub fit : (m : Mode) → Fit (row m .family) (row m .width) (row m .values)
+pub fit : (m : Mode) → Fit (row m).family (row m).width (row m).values
 fit m =
-    fits-true (row m .family) (row m .width) (row m .values)
-    (each-passes (λ n. fits (row n .family) (row n .width) (row n .values)) refl m)
+    fits-true (row m).family (row m).width (row m).values
+    (each-passes (λ n. fits (row n).family (row n).width (row n).values) refl m)
 
-pub code-is-byte : (m : Mode) → row m .code < 2 ^ 8
-code-is-byte m = ltb-true (row m .code) (2 ^ 8) (each-passes (λ n. ltb (row n .code) (2 ^ 8)) refl m)
+pub code-is-byte : (m : Mode) → (row m).code < 2 ^ 8
+code-is-byte m = ltb-true (row m).code (2 ^ 8) (each-passes (λ n. ltb (row n).code (2 ^ 8)) refl m)
 
-pub width-within : (m : Mode) → (0 < row m .width) × (row m .width ≤ 64)
+pub width-within : (m : Mode) → (0 < (row m).width) × ((row m).width ≤ 64)
 width-within m = (
-  ltb-true 0 (row m .width) (each-passes (λ n. ltb 0 (row n .width)) refl m),
-  leb-true (row m .width) 64 (each-passes (λ n. leb (row n .width) 64) refl m),
+  ltb-true 0 (row m).width (each-passes (λ n. ltb 0 (row n).width) refl m),
+  leb-true (row m).width 64 (each-passes (λ n. leb (row n).width 64) refl m),
 )
 
-pub values-within : (m : Mode) → row m .values ≤ 3
-values-within m = leb-true (row m .values) 3 (each-passes (λ n. leb (row n .values) 3) refl m)
+pub values-within : (m : Mode) → (row m).values ≤ 3
+values-within m = leb-true (row m).values 3 (each-passes (λ n. leb (row n).values 3) refl m)
 
 -- no unit waits for its own result
-pub distance-proper : (m : Mode) (way : Way) → distanceOf m way ≡ Some 0 → ⊥
-distance-proper m way e = proper (row m .family) way (row m .width) (row m .values) (fit m) e
+pub distance-proper : (m : Mode) (way : Way) → distance_of m way ≡ Some 0 → ⊥
+distance-proper m way e = proper (row m).family way (row m).width (row m).values (fit m) e
   where
     proper : (f : Family) (way : Way) (w δ : ℕ) → Fit f w δ → distance f way δ ≡ Some 0 → ⊥
-    proper Codebook way w δ fit e = let z : _≡_ {A = ℕ} 0 1 = cc in omega arith
-    proper Chaining Enciphering w δ fit e = let z : δ ≡ 0 = cc in omega (arith, fit .1)
-    proper Chaining Deciphering w δ fit e = let z : _≡_ {A = ℕ} 0 1 = cc in omega arith
-    proper CipherFeedback Enciphering w δ fit e = let z : δ ≡ 0 = cc in omega (arith, fit .1)
-    proper CipherFeedback Deciphering w δ fit e = let z : _≡_ {A = ℕ} 0 1 = cc in omega arith
-    proper OutputFeedback way w δ fit e = let z : δ ≡ 0 = cc in omega (arith, fit .1)
+    proper Codebook way w δ fit e = let z : ◌≡◌ {A = ℕ} 0 1 = cc in omega arith
+    proper Chaining Enciphering w δ fit e = let z : δ ≡ 0 = cc in omega (arith, fit.1)
+    proper Chaining Deciphering w δ fit e = let z : ◌≡◌ {A = ℕ} 0 1 = cc in omega arith
+    proper CipherFeedback Enciphering w δ fit e = let z : δ ≡ 0 = cc in omega (arith, fit.1)
+    proper CipherFeedback Deciphering w δ fit e = let z : ◌≡◌ {A = ℕ} 0 1 = cc in omega arith
+    proper OutputFeedback way w δ fit e = let z : δ ≡ 0 = cc in omega (arith, fit.1)
 
 -- units of 64 bits are blocks
 pub as-block : {w : ℕ} → w ≡ 64 → (x : ℕ) → x < 2 ^ w → x < 2 ^ 64
@@ -116,4 +108,4 @@ register-holds w h = holds (64 / w) h
   where
     holds : (x : ℕ) → w * x ≡ 64 → (q : ℕ) × (x ≡ suc q) × (suc q * w ≡ 64)
     holds zero e = absurd (omega (arith, mul-zero w))
-    holds (suc q) e = (q, refl, mul-comm (suc q) w ∙ e)
+    holds (suc q) e = (q, refl, mul_comm (suc q) w ∙ e)

@@ -1,35 +1,28 @@
 -- The published equations hold of what is sent and received.
-use mathlib.Core.Path.{_≡_, sym, ap, _∙_}
-use mathlib.Core.List.{List}
-use mathlib.Core.Bool.{cond}
-use mathlib.Core.Logic.{⊎-elim}
-use Prim.Native.Nat.{ℕ, zero, suc, _+_, _-_, _<_, _≤_}
-use native.Mathlib.Omega.{arith}
-use lib.Dec.{leb}
-use lib.ListN.{length, getD}
-use lib.Bits.{bitXor}
-use Rattle·std.proofs.shelf.Lists.{ext-getD}
-use Rattle·std.proofs.shelf.Tests.{cases-lt, le-leb, lt-leb, cond-true, cond-false}
-use Rattle·modes·specs.declared.family.Family.{Family}
-use Rattle·modes·specs.declared.family.Family.the-variants.{Codebook, Chaining, CipherFeedback, OutputFeedback}
-use Rattle·modes·specs.Bits.{leftmost, shifted}
-use Rattle·modes·specs.Table.{row}
-use Rattle·modes·specs.Results.{before, register, stream, output, ciphered, plain, enciphered, deciphered}
-use Rattle·modes·specs.Equations.{unit, Up-to, back, input, Enciphers, Deciphers, Equations}
-use Rattle·modes·proofs.Xor.{unmasked}
-use Rattle·modes·proofs.Grown.{length-grown, grown-at}
-use Rattle·modes·proofs.Fits.{Fit, fit}
-use Rattle·modes·proofs.Registers.{before-early, before-late, register-early, register-late}
-use Rattle·modes·proofs.Ciphered.{enciphered-at, enciphered-only}
+use Rattle.std.proofs.Common.{◌≡◌, ℕ, zero, suc, ◌+◌, ◌-◌, ◌<◌, ◌≤◌, cond, leb, List, length, get_or, sym, ap, ◌∙◌, ⊎_elim, arith}
+use lib.Bits.{bit_xor}
+use Rattle.std.proofs.lemmas.List.{ext_get_or}
+use Rattle.std.proofs.lemmas.Bool.{cases_lt, le-leb, lt-leb, cond-true, cond-false}
+use Rattle.modes.specs.declared.family.Family.{Family}
+use Rattle.modes.specs.declared.family.Family.TheVariants.{Codebook, Chaining, CipherFeedback, OutputFeedback}
+use Rattle.modes.specs.Bits.{leftmost, shifted}
+use Rattle.modes.specs.Table.{row}
+use Rattle.modes.specs.Results.{before, register, stream, output, ciphered, plain, enciphered, deciphered}
+use Rattle.modes.specs.Equations.{unit, Up-to, back, input, Enciphers, Deciphers, Equations}
+use Rattle.modes.proofs.Xor.{unmasked}
+use Rattle.modes.proofs.Grown.{length-grown, grown-at}
+use Rattle.modes.proofs.Fits.{Fit, fit}
+use Rattle.modes.proofs.Registers.{before-early, before-late, register-early, register-late}
+use Rattle.modes.proofs.Ciphered.{enciphered-at, enciphered-only}
 
 -- from places to numbers
-up-to : (n : ℕ) (Q : ℕ → Type 0) → ((k : ℕ) → k < n → Q (suc k)) → Up-to n Q
-up-to n Q h zero l l′ = absurd (omega arith)
-up-to n Q h (suc k) l l′ = h k (omega arith)
+up_to : (n : ℕ) (Q : ℕ → Type 0) → ((k : ℕ) → k < n → Q (suc k)) → Up-to n Q
+up_to n Q h zero l l' = absurd (omega arith)
+up_to n Q h (suc k) l l' = h k (omega arith)
 
 -- the unit at the distance before unit i
-back-early : (δ : ℕ) (IV X : ℕ → ℕ) (i : ℕ) → i ≤ δ → back δ IV X i ≡ IV i
-back-early δ IV X i l = cond-true (leb i δ) (IV i) (X (i - δ)) (le-leb i δ l)
+back_early : (δ : ℕ) (IV X : ℕ → ℕ) (i : ℕ) → i ≤ δ → back δ IV X i ≡ IV i
+back_early δ IV X i l = cond-true (leb i δ) (IV i) (X (i - δ)) (le-leb i δ l)
 
 back-late : (δ : ℕ) (IV X : ℕ → ℕ) (k j : ℕ) → δ + j ≡ k → back δ IV X (suc k) ≡ X (suc j)
 back-late δ IV X k j e =
@@ -38,11 +31,11 @@ back-late δ IV X k j e =
 
 back-is-before : (δ : ℕ) (ivs xs : List ℕ) (k : ℕ) → length ivs ≡ δ → before ivs xs k ≡ back δ (unit ivs) (unit xs) (suc k)
 back-is-before δ ivs xs k len =
-    ⊎-elim
-    (λ l. before-early ivs xs k (omega arith) ∙ sym (back-early δ (unit ivs) (unit xs) (suc k) (omega arith)))
+    ⊎_elim
+    (λ l. before-early ivs xs k (omega arith) ∙ sym (back_early δ (unit ivs) (unit xs) (suc k) (omega arith)))
     (λ l. let e : δ + (k - δ) ≡ k = omega arith in
     before-late ivs xs k (k - δ) (omega arith) ∙ sym (back-late δ (unit ivs) (unit xs) k (k - δ) e))
-    (cases-lt k δ)
+    (cases_lt k δ)
 
 -- the input blocks and the output blocks, numbered
 
@@ -69,7 +62,7 @@ module _ (w δ : ℕ) (ivs cs : List ℕ) (len : length ivs ≡ δ) (pos : 0 < �
       ∙ sym (cond-false (leb (suc (suc k)) δ) _ _ (lt-leb (suc (suc k)) δ (omega arith)))
 
   inputs-obey : (n : ℕ) → Up-to n Obeys
-  inputs-obey n = up-to n Obeys (λ k _. ⊎-elim (input-early k) (input-late k) (cases-lt k δ))
+  inputs-obey n = up_to n Obeys (λ k _. ⊎_elim (input-early k) (input-late k) (cases_lt k δ))
 
   -- no other input blocks obey
   inputs-only : (I : ℕ → ℕ) (n : ℕ) → Up-to n (λ i. I i ≡ input w δ (unit ivs) (unit cs) I i) → (k : ℕ) → k < n → I (suc k) ≡ register w ivs cs k
@@ -90,15 +83,15 @@ outputs F ivs (suc k) = output F ivs k
 outputs-obey : (F : ℕ → ℕ) (δ : ℕ) (ivs : List ℕ) (n : ℕ) → length ivs ≡ δ → 0 < δ
     → Up-to n (λ i. outputs F ivs i ≡ F (back δ (unit ivs) (outputs F ivs) i))
 outputs-obey F δ ivs n len pos =
-    up-to n _
+    up_to n _
     (λ k _. ap F
-    (⊎-elim
-    (λ l. before-early ivs (stream F ivs k) k (omega arith) ∙ sym (back-early δ (unit ivs) (outputs F ivs) (suc k) (omega arith)))
+    (⊎_elim
+    (λ l. before-early ivs (stream F ivs k) k (omega arith) ∙ sym (back_early δ (unit ivs) (outputs F ivs) (suc k) (omega arith)))
     (λ l. let e : δ + (k - δ) ≡ k = omega arith in
     before-late ivs (stream F ivs k) k (k - δ) (omega arith)
     ∙ grown-at (λ os i. F (before ivs os i)) k (k - δ) (omega arith)
     ∙ sym (back-late δ (unit ivs) (outputs F ivs) k (k - δ) e))
-    (cases-lt k δ)))
+    (cases_lt k δ)))
 
 -- no other output blocks obey
 outputs-only : (F : ℕ → ℕ) (δ : ℕ) (ivs : List ℕ) (O : ℕ → ℕ) (n : ℕ) → length ivs ≡ δ → 0 < δ → Up-to n (λ i. O i ≡ F (back δ (unit ivs) O i))
@@ -107,68 +100,68 @@ outputs-only F δ ivs O n len pos h zero hk i l = absurd (omega arith)
 outputs-only F δ ivs O n len pos h (suc k) hk i l =
     h (suc i) (omega arith) (omega arith)
     ∙ ap F
-    (⊎-elim
-    (λ a. back-early δ (unit ivs) O (suc i) (omega arith) ∙ sym (back-early δ (unit ivs) (outputs F ivs) (suc i) (omega arith)))
+    (⊎_elim
+    (λ a. back_early δ (unit ivs) O (suc i) (omega arith) ∙ sym (back_early δ (unit ivs) (outputs F ivs) (suc i) (omega arith)))
     (λ a. let e : δ + (i - δ) ≡ i = omega arith in
     back-late δ (unit ivs) O i (i - δ) e ∙ outputs-only F δ ivs O n len pos h k (omega arith) (i - δ) (omega arith)
     ∙ sym (back-late δ (unit ivs) (outputs F ivs) i (i - δ) e))
-    (cases-lt i δ))
+    (cases_lt i δ))
     ∙ sym (outputs-obey F δ ivs (suc i) len pos (suc i) (omega arith) (omega arith))
 
 -- the equations of one mode, place by place
 
 module _ (F G : ℕ → ℕ) (w δ : ℕ) (ivs : List ℕ) (len : length ivs ≡ δ) (ps cs : List ℕ) (n : ℕ) where
   abbrev Ciphered : Family → Type 0
-  Ciphered f = (k : ℕ) → k < n → getD cs k 0 ≡ ciphered F f w ivs cs k (getD ps k 0)
+  Ciphered f = (k : ℕ) → k < n → get_or cs k 0 ≡ ciphered F f w ivs cs k (get_or ps k 0)
 
   enciphers : (f : Family) → Fit f w δ → Ciphered f → Enciphers f F w δ (unit ivs) (unit ps) (unit cs) n
-  enciphers Codebook fit h = up-to n _ h
-  enciphers Chaining fit h = up-to n _ (λ k l. h k l ∙ ap (λ x. F (bitXor (getD ps k 0) x)) (back-is-before δ ivs cs k len))
-  enciphers CipherFeedback fit h = (inputs w ivs cs, (inputs-obey w δ ivs cs len (fit .1) n, up-to n _ h))
-  enciphers OutputFeedback fit h = (outputs F ivs, (outputs-obey F δ ivs n len (fit .1), up-to n _ h))
+  enciphers Codebook fit h = up_to n _ h
+  enciphers Chaining fit h = up_to n _ (λ k l. h k l ∙ ap (λ x. F (bit_xor (get_or ps k 0) x)) (back-is-before δ ivs cs k len))
+  enciphers CipherFeedback fit h = (inputs w ivs cs, (inputs-obey w δ ivs cs len fit.1 n, up_to n _ h))
+  enciphers OutputFeedback fit h = (outputs F ivs, (outputs-obey F δ ivs n len fit.1, up_to n _ h))
 
   enciphered-by : (f : Family) → Fit f w δ → Enciphers f F w δ (unit ivs) (unit ps) (unit cs) n → Ciphered f
   enciphered-by Codebook fit h k l = h (suc k) (omega arith) (omega arith)
   enciphered-by Chaining fit h k l =
-      h (suc k) (omega arith) (omega arith) ∙ ap (λ x. F (bitXor (getD ps k 0) x)) (sym (back-is-before δ ivs cs k len))
+      h (suc k) (omega arith) (omega arith) ∙ ap (λ x. F (bit_xor (get_or ps k 0) x)) (sym (back-is-before δ ivs cs k len))
   enciphered-by CipherFeedback fit h k l =
-      h .1 .1 (suc k) (omega arith) (omega arith)
-      ∙ ap (λ x. bitXor (getD ps k 0) (leftmost w (F x))) (inputs-only w δ ivs cs len (fit .1) (h .0) n (h .1 .0) k l)
+      h.1.1 (suc k) (omega arith) (omega arith)
+      ∙ ap (λ x. bit_xor (get_or ps k 0) (leftmost w (F x))) (inputs-only w δ ivs cs len fit.1 h.0 n h.1.0 k l)
   enciphered-by OutputFeedback fit h k l =
-      h .1 .1 (suc k) (omega arith) (omega arith)
-      ∙ ap (bitXor (getD ps k 0)) (outputs-only F δ ivs (h .0) n len (fit .1) (h .1 .0) n (omega arith) k l)
+      h.1.1 (suc k) (omega arith) (omega arith)
+      ∙ ap (bit_xor (get_or ps k 0)) (outputs-only F δ ivs h.0 n len fit.1 h.1.0 n (omega arith) k l)
 
   abbrev Plain : Family → Type 0
-  Plain f = (k : ℕ) → k < n → getD ps k 0 ≡ plain F G f w ivs cs k (getD cs k 0)
+  Plain f = (k : ℕ) → k < n → get_or ps k 0 ≡ plain F G f w ivs cs k (get_or cs k 0)
 
   deciphers : (f : Family) → Fit f w δ → Plain f → Deciphers f F G w δ (unit ivs) (unit ps) (unit cs) n
-  deciphers Codebook fit h = up-to n _ h
-  deciphers Chaining fit h = up-to n _ (λ k l. h k l ∙ ap (bitXor (G (getD cs k 0))) (back-is-before δ ivs cs k len))
-  deciphers CipherFeedback fit h = enciphers CipherFeedback fit (λ k l. unmasked (getD ps k 0) (getD cs k 0) (leftmost w (F (register w ivs cs k))) (h k l))
-  deciphers OutputFeedback fit h = enciphers OutputFeedback fit (λ k l. unmasked (getD ps k 0) (getD cs k 0) (output F ivs k) (h k l))
+  deciphers Codebook fit h = up_to n _ h
+  deciphers Chaining fit h = up_to n _ (λ k l. h k l ∙ ap (bit_xor (G (get_or cs k 0))) (back-is-before δ ivs cs k len))
+  deciphers CipherFeedback fit h = enciphers CipherFeedback fit (λ k l. unmasked (get_or ps k 0) (get_or cs k 0) (leftmost w (F (register w ivs cs k))) (h k l))
+  deciphers OutputFeedback fit h = enciphers OutputFeedback fit (λ k l. unmasked (get_or ps k 0) (get_or cs k 0) (output F ivs k) (h k l))
 
   deciphered-by : (f : Family) → Fit f w δ → Deciphers f F G w δ (unit ivs) (unit ps) (unit cs) n → Plain f
   deciphered-by Codebook fit h k l = h (suc k) (omega arith) (omega arith)
   deciphered-by Chaining fit h k l =
-      h (suc k) (omega arith) (omega arith) ∙ ap (bitXor (G (getD cs k 0))) (sym (back-is-before δ ivs cs k len))
+      h (suc k) (omega arith) (omega arith) ∙ ap (bit_xor (G (get_or cs k 0))) (sym (back-is-before δ ivs cs k len))
   deciphered-by CipherFeedback fit h k l =
-      unmasked (getD cs k 0) (getD ps k 0) (leftmost w (F (register w ivs cs k))) (enciphered-by CipherFeedback fit h k l)
-  deciphered-by OutputFeedback fit h k l = unmasked (getD cs k 0) (getD ps k 0) (output F ivs k) (enciphered-by OutputFeedback fit h k l)
+      unmasked (get_or cs k 0) (get_or ps k 0) (leftmost w (F (register w ivs cs k))) (enciphered-by CipherFeedback fit h k l)
+  deciphered-by OutputFeedback fit h k l = unmasked (get_or cs k 0) (get_or ps k 0) (output F ivs k) (enciphered-by OutputFeedback fit h k l)
 
 pub equations : Equations
 equations F G m ivs us len =
-    let f = row m .family in
-    let w = row m .width in
-    let δ = row m .values in
+    let f = (row m).family in
+    let w = (row m).width in
+    let δ = (row m).values in
     let n = length us in
     let cs = enciphered F f w ivs us n in
     let ps = deciphered F G f w ivs us n in
     record {
       sends = enciphers F G w δ ivs len us cs n f (fit m) (λ k l. enciphered-at F f w δ ivs us n k (fit m) len l);
       sends-only = λ xs lx h. enciphered-only F f w δ ivs us xs n (fit m) len lx (enciphered-by F G w δ ivs len us xs n f (fit m) h);
-      receives = deciphers F G w δ ivs len ps us n f (fit m) (λ k l. grown-at (λ _ i. plain F G f w ivs us i (getD us i 0)) n k l);
+      receives = deciphers F G w δ ivs len ps us n f (fit m) (λ k l. grown-at (λ _ i. plain F G f w ivs us i (get_or us i 0)) n k l);
       receives-only = λ xs lx h.
-          ext-getD 0 xs ps (lx ∙ sym (length-grown (λ _ i. plain F G f w ivs us i (getD us i 0)) n))
+          ext_get_or 0 xs ps (lx ∙ sym (length-grown (λ _ i. plain F G f w ivs us i (get_or us i 0)) n))
           (λ k l. deciphered-by F G w δ ivs len xs us n f (fit m) h k (omega arith)
-          ∙ sym (grown-at (λ _ i. plain F G f w ivs us i (getD us i 0)) n k (omega arith)));
+          ∙ sym (grown-at (λ _ i. plain F G f w ivs us i (get_or us i 0)) n k (omega arith)));
     }

@@ -1,27 +1,22 @@
 -- What a receiver gets: units for units, the front of a longer list, the sender's list, and the way back after a gap.
-use mathlib.Core.Path.{_≡_, sym, ap, _∙_}
-use mathlib.Core.List.{List, _++_}
-use Prim.Native.Nat.{ℕ, zero, suc, _+_, _-_, _/_, _^_, _<_, _≤_}
-use native.Mathlib.Omega.{arith}
-use lib.ListN.{length, getD, take}
-use lib.Bits.{bitXor}
-use Rattle·std.proofs.shelf.Lists.{getD-append-left, length-append, ext-getD}
-use Rattle·std.specs.declared.option.Option.the-variants.{Some}
-use Rattle·cipher.specs.Undoing.{Undo}
-use Rattle·modes·specs.declared.family.Family.{Family}
-use Rattle·modes·specs.declared.family.Family.the-variants.{Codebook, Chaining, CipherFeedback, OutputFeedback}
-use Rattle·modes·specs.declared.way.Way.{Way}
-use Rattle·modes·specs.declared.way.Way.the-variants.{Enciphering, Deciphering}
-use Rattle·modes·specs.Bits.{leftmost}
-use Rattle·modes·specs.declared.mode.Mode.{Mode}
-use Rattle·modes·specs.Table.{row, memory}
-use Rattle·modes·specs.Values.{Units, Begins}
-use Rattle·modes·specs.Results.{results, sent, received, before, register, output, ciphered, plain}
-use Rattle·modes·specs.Laws.{Ends, Units-give-units, Prefix, Restoring, Recovery}
-use Rattle·modes·proofs.Grown.{length-grown, grown-at, grown-same, take-grown}
-use Rattle·modes·proofs.Fits.{Fit, fit, as-block, register-holds}
-use Rattle·modes·proofs.Registers.{before-late, register-below, register-whole}
-use Rattle·modes·proofs.Ciphered.{plain-same, output-block, enciphered-units, deciphered-units, deciphers-back}
+use Rattle.std.proofs.Common.{◌≡◌, ℕ, zero, suc, ◌+◌, ◌-◌, ◌/◌, ◌^◌, ◌<◌, ◌≤◌, List, ◌++◌, length, get_or, take, Some, sym, ap, ◌∙◌, arith}
+use lib.Bits.{bit_xor}
+use Rattle.std.proofs.lemmas.List.{get_or_append_left, length-append, ext_get_or}
+use Rattle.cipher.specs.Undoing.{Undo}
+use Rattle.modes.specs.declared.family.Family.{Family}
+use Rattle.modes.specs.declared.family.Family.TheVariants.{Codebook, Chaining, CipherFeedback, OutputFeedback}
+use Rattle.modes.specs.declared.way.Way.{Way}
+use Rattle.modes.specs.declared.way.Way.TheVariants.{Enciphering, Deciphering}
+use Rattle.modes.specs.Bits.{leftmost}
+use Rattle.modes.specs.declared.mode.Mode.{Mode}
+use Rattle.modes.specs.Table.{row, memory}
+use Rattle.modes.specs.Values.{Units, Begins}
+use Rattle.modes.specs.Results.{results, sent, received, before, register, output, ciphered, plain}
+use Rattle.modes.specs.Laws.{Ends, Units-give-units, Prefix, Restoring, Recovery}
+use Rattle.modes.proofs.Grown.{length-grown, grown-at, grown-same, take-grown}
+use Rattle.modes.proofs.Fits.{Fit, fit, as-block, register-holds}
+use Rattle.modes.proofs.Registers.{before-late, register-below, register-whole}
+use Rattle.modes.proofs.Ciphered.{plain-same, output-block, enciphered-units, deciphered-units, deciphers-back}
 
 -- the lists of results, either way
 
@@ -35,24 +30,24 @@ module _ (F G : ℕ → ℕ) (m : Mode) where
   take-results Deciphering ivs us k n l = take-grown _ k n l
 
   -- the first n results come from the first n units
-  pub results-same : (way : Way) (ivs us vs : List ℕ) (n : ℕ) → ((i : ℕ) → i < n → getD us i 0 ≡ getD vs i 0)
+  pub results_same : (way : Way) (ivs us vs : List ℕ) (n : ℕ) → ((i : ℕ) → i < n → get_or us i 0 ≡ get_or vs i 0)
       → results F G m way ivs us n ≡ results F G m way ivs vs n
-  results-same Enciphering ivs us vs n same =
-      let next : List ℕ → List ℕ → ℕ → ℕ = λ ps cs i. ciphered F (row m .family) (row m .width) ivs cs i (getD ps i 0) in
+  results_same Enciphering ivs us vs n same =
+      let next : List ℕ → List ℕ → ℕ → ℕ = λ ps cs i. ciphered F (row m).family (row m).width ivs cs i (get_or ps i 0) in
       grown-same (next us) (next vs) n
-      (λ i l. ap (ciphered F (row m .family) (row m .width) ivs (results F G m Enciphering ivs us i) i) (same i l))
-  results-same Deciphering ivs us vs n same =
-      let next : List ℕ → List ℕ → ℕ → ℕ = λ cs _ i. plain F G (row m .family) (row m .width) ivs cs i (getD cs i 0) in
+      (λ i l. ap (ciphered F (row m).family (row m).width ivs (results F G m Enciphering ivs us i) i) (same i l))
+  results_same Deciphering ivs us vs n same =
+      let next : List ℕ → List ℕ → ℕ → ℕ = λ cs _ i. plain F G (row m).family (row m).width ivs cs i (get_or cs i 0) in
       grown-same (next us) (next vs) n
-      (λ i l. plain-same F G (row m .family) (row m .width) ivs us vs i (getD us i 0) (λ j q. same j (omega arith))
-      ∙ ap (plain F G (row m .family) (row m .width) ivs vs i) (same i l))
+      (λ i l. plain-same F G (row m).family (row m).width ivs us vs i (get_or us i 0) (λ j q. same j (omega arith))
+      ∙ ap (plain F G (row m).family (row m).width ivs vs i) (same i l))
 
-  pub results-units : Undo F G → (way : Way) (ivs us : List ℕ) (n : ℕ) → Begins m ivs → Units (row m .width) us → n ≤ length us
-      → Units (row m .width) (results F G m way ivs us n)
+  pub results-units : Undo F G → (way : Way) (ivs us : List ℕ) (n : ℕ) → Begins m ivs → Units (row m).width us → n ≤ length us
+      → Units (row m).width (results F G m way ivs us n)
   results-units u Enciphering ivs us n b h l =
-      enciphered-units F G u (row m .family) (row m .width) (row m .values) (fit m) ivs us (b .count) (b .blocks) h n l
+      enciphered-units F G u (row m).family (row m).width (row m).values (fit m) ivs us b.count b.blocks h n l
   results-units u Deciphering ivs us n b h l =
-      deciphered-units F G u (row m .family) (row m .width) (row m .values) (fit m) ivs us (b .count) (b .blocks) h n l
+      deciphered-units F G u (row m).family (row m).width (row m).values (fit m) ivs us b.count b.blocks h n l
 
 pub units-give-units : Units-give-units
 units-give-units F G u m way ivs us b h = (length-results F G m way ivs us (length us), results-units F G m u way ivs us (length us) b h (omega arith))
@@ -60,96 +55,96 @@ units-give-units F G u m way ivs us b h = (length-results F G m way ivs us (leng
 pub prefix : Prefix
 prefix F G m way ivs us more =
     take-results F G m way ivs (us ++ more) (length us) (length (us ++ more)) (omega (arith, length-append us more))
-    ∙ results-same F G m way ivs (us ++ more) us (length us) (λ i l. getD-append-left us more 0 i l)
+    ∙ results_same F G m way ivs (us ++ more) us (length us) (λ i l. get_or_append_left us more 0 i l)
 
 -- ciphers that are the same at every block give the same plain units
 
-module _ (F G F′ G′ : ℕ → ℕ) (ends : Ends F G F′ G′) where
-  output-same : (ivs : List ℕ) (i : ℕ) → 0 < length ivs → Units 64 ivs → output F ivs i ≡ output F′ ivs i
+module _ (F G F' G' : ℕ → ℕ) (ends : Ends F G F' G') where
+  output-same : (ivs : List ℕ) (i : ℕ) → 0 < length ivs → Units 64 ivs → output F ivs i ≡ output F' ivs i
   output-same ivs i pos b =
       let next : (ℕ → ℕ) → List ℕ → ℕ → ℕ = λ H os k. H (before ivs os k) in
-      let block = output-block F G (ends .undo) ivs in
-      sym (ends .forward _ (block i pos b))
-      ∙ ap (λ os. F′ (before ivs os i)) (grown-same (next F) (next F′) i (λ k _. sym (ends .forward _ (block k pos b))))
+      let block = output-block F G ends.undo ivs in
+      sym (ends.forward _ (block i pos b))
+      ∙ ap (λ os. F' (before ivs os i)) (grown-same (next F) (next F') i (λ k _. sym (ends.forward _ (block k pos b))))
 
   plain-same-ends : (f : Family) (w δ : ℕ) (ivs cs : List ℕ) (i c : ℕ) → Fit f w δ → length ivs ≡ δ → Units 64 ivs → c < 2 ^ w
-      → plain F G f w ivs cs i c ≡ plain F′ G′ f w ivs cs i c
-  plain-same-ends Codebook w δ ivs cs i c fit len b hc = sym (ends .inverse c (as-block fit c hc))
+      → plain F G f w ivs cs i c ≡ plain F' G' f w ivs cs i c
+  plain-same-ends Codebook w δ ivs cs i c fit len b hc = sym (ends.inverse c (as-block fit c hc))
   plain-same-ends Chaining w δ ivs cs i c fit len b hc =
-      ap (λ x. bitXor x (before ivs cs i)) (sym (ends .inverse c (as-block (fit .0) c hc)))
+      ap (λ x. bit_xor x (before ivs cs i)) (sym (ends.inverse c (as-block fit.0 c hc)))
   plain-same-ends CipherFeedback w δ ivs cs i c fit len b hc =
-      ap (λ x. bitXor c (leftmost w x)) (sym (ends .forward _ (register-below w ivs cs i (omega arith) b)))
-  plain-same-ends OutputFeedback w δ ivs cs i c fit len b hc = ap (bitXor c) (output-same ivs i (omega arith) b)
+      ap (λ x. bit_xor c (leftmost w x)) (sym (ends.forward _ (register-below w ivs cs i (omega arith) b)))
+  plain-same-ends OutputFeedback w δ ivs cs i c fit len b hc = ap (bit_xor c) (output-same ivs i (omega arith) b)
 
   -- what is received at place i
-  pub received-at : (m : Mode) (ivs cs : List ℕ) (i : ℕ) → Begins m ivs → Units (row m .width) cs → i < length cs
-      → getD (received F′ G′ m ivs cs) i 0 ≡ plain F G (row m .family) (row m .width) ivs cs i (getD cs i 0)
+  pub received-at : (m : Mode) (ivs cs : List ℕ) (i : ℕ) → Begins m ivs → Units (row m).width cs → i < length cs
+      → get_or (received F' G' m ivs cs) i 0 ≡ plain F G (row m).family (row m).width ivs cs i (get_or cs i 0)
   received-at m ivs cs i b h l =
       grown-at _ (length cs) i l
-      ∙ sym (plain-same-ends (row m .family) (row m .width) (row m .values) ivs cs i (getD cs i 0) (fit m) (b .count) (b .blocks) (h i l))
+      ∙ sym (plain-same-ends (row m).family (row m).width (row m).values ivs cs i (get_or cs i 0) (fit m) b.count b.blocks (h i l))
 
 -- what was sent deciphers to its plain unit
-pub sent-back : (F G : ℕ → ℕ) → Undo F G → (m : Mode) (ivs ps : List ℕ) → Begins m ivs → Units (row m .width) ps → (i : ℕ) → i < length ps
-    → plain F G (row m .family) (row m .width) ivs (sent F G m ivs ps) i (getD (sent F G m ivs ps) i 0) ≡ getD ps i 0
-sent-back F G u m ivs ps b h i l =
-    deciphers-back F G u (row m .family) (row m .width) (row m .values) (fit m) ivs ps (b .count) (b .blocks) h (length ps) (omega arith) i l
+pub sent_back : (F G : ℕ → ℕ) → Undo F G → (m : Mode) (ivs ps : List ℕ) → Begins m ivs → Units (row m).width ps → (i : ℕ) → i < length ps
+    → plain F G (row m).family (row m).width ivs (sent F G m ivs ps) i (get_or (sent F G m ivs ps) i 0) ≡ get_or ps i 0
+sent_back F G u m ivs ps b h i l =
+    deciphers-back F G u (row m).family (row m).width (row m).values (fit m) ivs ps b.count b.blocks h (length ps) (omega arith) i l
 
 pub restoring : Restoring
-restoring F G F′ G′ ends m ivs ps b h =
+restoring F G F' G' ends m ivs ps b h =
     let cs = sent F G m ivs ps in
     let len : length cs ≡ length ps = length-results F G m Enciphering ivs ps (length ps) in
-    let out : length (received F′ G′ m ivs cs) ≡ length cs = length-results F′ G′ m Deciphering ivs cs (length cs) in
-    let hc = results-units F G m (ends .undo) Enciphering ivs ps (length ps) b h (omega arith) in
-    ext-getD 0 (received F′ G′ m ivs cs) ps (out ∙ len)
-    (λ i l. received-at F G F′ G′ ends m ivs cs i b hc (omega arith) ∙ sent-back F G (ends .undo) m ivs ps b h i (omega arith))
+    let out : length (received F' G' m ivs cs) ≡ length cs = length-results F' G' m Deciphering ivs cs (length cs) in
+    let hc = results-units F G m ends.undo Enciphering ivs ps (length ps) b h (omega arith) in
+    ext_get_or 0 (received F' G' m ivs cs) ps (out ∙ len)
+    (λ i l. received-at F G F' G' ends m ivs cs i b hc (omega arith) ∙ sent_back F G ends.undo m ivs ps b h i (omega arith))
 
 -- a plain unit rests on its own ciphered unit and on as many before it as the memory says
-plain-rests : (F G : ℕ → ℕ) (f : Family) (w δ r : ℕ) → Fit f w δ → memory f w δ ≡ Some r → (ivs ivs′ xs ys : List ℕ) (a s : ℕ) → length ivs ≡ δ → length ivs′ ≡ δ
-    → ((k : ℕ) → k ≤ r → (getD xs (a + k) 0 ≡ getD ys (s + k) 0) × (getD ys (s + k) 0 < 2 ^ w))
-    → plain F G f w ivs xs (a + r) (getD xs (a + r) 0) ≡ plain F G f w ivs′ ys (s + r) (getD ys (s + r) 0)
-plain-rests F G Codebook w δ r fit mem ivs ivs′ xs ys a s len len′ h = ap G (h r (omega arith) .0)
-plain-rests F G Chaining w δ r fit mem ivs ivs′ xs ys a s len len′ h =
+plain-rests : (F G : ℕ → ℕ) (f : Family) (w δ r : ℕ) → Fit f w δ → memory f w δ ≡ Some r → (ivs ivs' xs ys : List ℕ) (a s : ℕ) → length ivs ≡ δ → length ivs' ≡ δ
+    → ((k : ℕ) → k ≤ r → (get_or xs (a + k) 0 ≡ get_or ys (s + k) 0) × (get_or ys (s + k) 0 < 2 ^ w))
+    → plain F G f w ivs xs (a + r) (get_or xs (a + r) 0) ≡ plain F G f w ivs' ys (s + r) (get_or ys (s + r) 0)
+plain-rests F G Codebook w δ r fit mem ivs ivs' xs ys a s len len' h = ap G (h r (omega arith)).0
+plain-rests F G Chaining w δ r fit mem ivs ivs' xs ys a s len len' h =
     let m : δ ≡ r = cc in
-    let at : (zs : List ℕ) (k : ℕ) → getD zs (k + 0) 0 ≡ getD zs k 0 = λ zs k. ap (λ i. getD zs i 0) (omega arith) in
-    let first : getD xs a 0 ≡ getD ys s 0 = sym (at xs a) ∙ h 0 (omega arith) .0 ∙ at ys s in
-    let link : before ivs xs (a + r) ≡ before ivs′ ys (s + r) =
-    before-late ivs xs (a + r) a (omega arith) ∙ first ∙ sym (before-late ivs′ ys (s + r) s (omega arith)) in
-    let own : getD xs (a + r) 0 ≡ getD ys (s + r) 0 = h r (omega arith) .0 in
+    let at : (zs : List ℕ) (k : ℕ) → get_or zs (k + 0) 0 ≡ get_or zs k 0 = λ zs k. ap (λ i. get_or zs i 0) (omega arith) in
+    let first : get_or xs a 0 ≡ get_or ys s 0 = sym (at xs a) ∙ (h 0 (omega arith)).0 ∙ at ys s in
+    let link : before ivs xs (a + r) ≡ before ivs' ys (s + r) =
+    before-late ivs xs (a + r) a (omega arith) ∙ first ∙ sym (before-late ivs' ys (s + r) s (omega arith)) in
+    let own : get_or xs (a + r) 0 ≡ get_or ys (s + r) 0 = (h r (omega arith)).0 in
     cc (link, own)
-plain-rests F G CipherFeedback w zero r fit mem ivs ivs′ xs ys a s len len′ h = absurd (omega (arith, fit .1))
-plain-rests F G CipherFeedback w (suc d) r fit mem ivs ivs′ xs ys a s len len′ h =
-    let q = register-holds w (fit .0) in
+plain-rests F G CipherFeedback w zero r fit mem ivs ivs' xs ys a s len len' h = absurd (omega (arith, fit.1))
+plain-rests F G CipherFeedback w (suc d) r fit mem ivs ivs' xs ys a s len len' h =
+    let q = register-holds w fit.0 in
     let m : 64 / w + suc d - 1 ≡ r = cc in
-    let size : 64 / w ≡ suc (q .0) = q .1 in
-    let m′ : r ≡ suc (q .0) + d = omega arith in
-    let ea : d + a + suc (q .0) ≡ a + r = omega arith in
-    let es : d + s + suc (q .0) ≡ s + r = omega arith in
-    let same : register w ivs xs (a + r) ≡ register w ivs′ ys (s + r) =
+    let size : 64 / w ≡ suc q.0 = q.1 in
+    let m' : r ≡ suc q.0 + d = omega arith in
+    let ea : d + a + suc q.0 ≡ a + r = omega arith in
+    let es : d + s + suc q.0 ≡ s + r = omega arith in
+    let same : register w ivs xs (a + r) ≡ register w ivs' ys (s + r) =
     ap (register w ivs xs) (sym ea)
-    ∙ register-whole w d ivs ivs′ xs ys len len′ a s (q .0) (q .2) (λ t l. h t (omega arith))
-    ∙ ap (register w ivs′ ys) es in
-    let own : getD xs (a + r) 0 ≡ getD ys (s + r) 0 = h r (omega arith) .0 in
+    ∙ register-whole w d ivs ivs' xs ys len len' a s q.0 q.2 (λ t l. h t (omega arith))
+    ∙ ap (register w ivs' ys) es in
+    let own : get_or xs (a + r) 0 ≡ get_or ys (s + r) 0 = (h r (omega arith)).0 in
     cc (same, own)
-plain-rests F G OutputFeedback w δ r fit mem ivs ivs′ xs ys a s len len′ h = let z : _≡_ {A = ℕ} 0 1 = cc in absurd (omega arith)
+plain-rests F G OutputFeedback w δ r fit mem ivs ivs' xs ys a s len len' h = let z : ◌≡◌ {A = ℕ} 0 1 = cc in absurd (omega arith)
 
 pub recovery : Recovery
-recovery F G F′ G′ ends m r mem ivs ivs′ ps xs b b′ hp hx i j ri hi rj hj eq =
-    let f = row m .family in
-    let w = row m .width in
+recovery F G F' G' ends m r mem ivs ivs' ps xs b b' hp hx i j ri hi rj hj eq =
+    let f = (row m).family in
+    let w = (row m).width in
     let cs = sent F G m ivs ps in
     let len : length cs ≡ length ps = length-results F G m Enciphering ivs ps (length ps) in
-    let hc = results-units F G m (ends .undo) Enciphering ivs ps (length ps) b hp (omega arith) in
+    let hc = results-units F G m ends.undo Enciphering ivs ps (length ps) b hp (omega arith) in
     let ei : i - r + r ≡ i = omega arith in
     let ej : j - r + r ≡ j = omega arith in
-    let window : (k : ℕ) → k ≤ r → (getD xs (j - r + k) 0 ≡ getD cs (i - r + k) 0) × (getD cs (i - r + k) 0 < 2 ^ w) =
+    let window : (k : ℕ) → k ≤ r → (get_or xs (j - r + k) 0 ≡ get_or cs (i - r + k) 0) × (get_or cs (i - r + k) 0 < 2 ^ w) =
     λ k l.
     let kj : j - (r - k) ≡ j - r + k = omega arith in
     let ki : i - (r - k) ≡ i - r + k = omega arith in (
-      ap (λ x. getD xs x 0) (sym kj) ∙ eq (r - k) (omega arith) ∙ ap (λ x. getD cs x 0) ki,
+      ap (λ x. get_or xs x 0) (sym kj) ∙ eq (r - k) (omega arith) ∙ ap (λ x. get_or cs x 0) ki,
       hc (i - r + k) (omega arith),
     ) in
-    received-at F G F′ G′ ends m ivs′ xs j b′ hx hj
-    ∙ ap (λ x. plain F G f w ivs′ xs x (getD xs x 0)) (sym ej)
-    ∙ plain-rests F G f w (row m .values) r (fit m) mem ivs′ ivs xs cs (j - r) (i - r) (b′ .count) (b .count) window
-    ∙ ap (λ x. plain F G f w ivs cs x (getD cs x 0)) ei
-    ∙ sent-back F G (ends .undo) m ivs ps b hp i hi
+    received-at F G F' G' ends m ivs' xs j b' hx hj
+    ∙ ap (λ x. plain F G f w ivs' xs x (get_or xs x 0)) (sym ej)
+    ∙ plain-rests F G f w (row m).values r (fit m) mem ivs' ivs xs cs (j - r) (i - r) b'.count b.count window
+    ∙ ap (λ x. plain F G f w ivs cs x (get_or cs x 0)) ei
+    ∙ sent_back F G ends.undo m ivs ps b hp i hi

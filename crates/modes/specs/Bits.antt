@@ -1,5 +1,5 @@
 -- The two operations on bits that the feedback modes need. Bit 1 of a block is its highest.
-use Prim.Native.Nat.{ℕ, _+_, _-_, _*_, _/_, _%_, _^_}
+use Rattle.std.specs.Prelude.{ℕ, ◌+◌, ◌-◌, ◌*◌, ◌/◌, ◌%◌, ◌^◌}
 
 -- the leftmost w bits of block o
 abbrev pub leftmost : ℕ → ℕ → ℕ

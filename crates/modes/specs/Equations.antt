@@ -1,23 +1,17 @@
 -- The equations of the modes as they are published. Units count from 1: Pi is plain unit i, Ci its ciphered unit, Ii an input block,
 -- Oi an output block, IVi an initial value; w is the width of a unit, δ the distance, n the number of units.
-use mathlib.Core.Path.{_≡_}
-use mathlib.Core.List.{List}
-use mathlib.Core.Bool.{cond}
-use Prim.Native.Nat.{ℕ, zero, suc, _-_, _≤_}
-use lib.Bits.{bitXor}
-use lib.Dec.{leb}
-use lib.ListN.{length, getD}
-use Rattle·modes·specs.declared.family.Family.{Family}
-use Rattle·modes·specs.declared.family.Family.the-variants.{Codebook, Chaining, CipherFeedback, OutputFeedback}
-use Rattle·modes·specs.declared.mode.Mode.{Mode}
-use Rattle·modes·specs.Bits.{leftmost, shifted}
-use Rattle·modes·specs.Table.{row}
-use Rattle·modes·specs.Results.{sent, received}
+use Rattle.std.specs.Prelude.{◌≡◌, ℕ, zero, suc, ◌-◌, ◌≤◌, cond, List, length, bit_xor, nat_le, slice_index}
+use Rattle.modes.specs.declared.family.Family.{Family}
+use Rattle.modes.specs.declared.family.Family.TheVariants.{Codebook, Chaining, CipherFeedback, OutputFeedback}
+use Rattle.modes.specs.declared.mode.Mode.{Mode}
+use Rattle.modes.specs.Bits.{leftmost, shifted}
+use Rattle.modes.specs.Table.{row}
+use Rattle.modes.specs.Results.{sent, received}
 
 -- unit i of a list
 abbrev pub unit : List ℕ → ℕ → ℕ
 unit us zero = 0
-unit us (suc k) = getD us k 0
+unit us (suc k) = slice_index us k
 
 -- for i from 1 to n
 abbrev pub Up-to : ℕ → (ℕ → Type 0) → Type 0
@@ -25,33 +19,33 @@ Up-to n Q = (i : ℕ) → 1 ≤ i → i ≤ n → Q i
 
 -- Xi−δ, for which IVi stands where i ≤ δ
 abbrev pub back : ℕ → (ℕ → ℕ) → (ℕ → ℕ) → ℕ → ℕ
-back δ IV X i = cond (leb i δ) (IV i) (X (i - δ))
+back δ IV X i = cond (nat_le i δ) (IV i) (X (i - δ))
 
 -- cipher feedback: Ii is IVi where i ≤ δ, else Sw(Ii−1, Ci−δ)
 abbrev pub input : ℕ → ℕ → (ℕ → ℕ) → (ℕ → ℕ) → (ℕ → ℕ) → ℕ → ℕ
-input w δ IV C I i = cond (leb i δ) (IV i) (shifted w (I (i - 1)) (C (i - δ)))
+input w δ IV C I i = cond (nat_le i δ) (IV i) (shifted w (I (i - 1)) (C (i - δ)))
 
 abbrev pub Enciphers : Family → (ℕ → ℕ) → ℕ → ℕ → (ℕ → ℕ) → (ℕ → ℕ) → (ℕ → ℕ) → ℕ → Type 0
 Enciphers Codebook F w δ IV P C n = Up-to n (λ i. C i ≡ F (P i))
-Enciphers Chaining F w δ IV P C n = Up-to n (λ i. C i ≡ F (bitXor (P i) (back δ IV C i)))
+Enciphers Chaining F w δ IV P C n = Up-to n (λ i. C i ≡ F (bit_xor (P i) (back δ IV C i)))
 Enciphers CipherFeedback F w δ IV P C n =
-    (I : ℕ → ℕ) × (Up-to n (λ i. I i ≡ input w δ IV C I i) × Up-to n (λ i. C i ≡ bitXor (P i) (leftmost w (F (I i)))))
+    (I : ℕ → ℕ) × (Up-to n (λ i. I i ≡ input w δ IV C I i) × Up-to n (λ i. C i ≡ bit_xor (P i) (leftmost w (F (I i)))))
 Enciphers OutputFeedback F w δ IV P C n =
-    (O : ℕ → ℕ) × (Up-to n (λ i. O i ≡ F (back δ IV O i)) × Up-to n (λ i. C i ≡ bitXor (P i) (O i)))
+    (O : ℕ → ℕ) × (Up-to n (λ i. O i ≡ F (back δ IV O i)) × Up-to n (λ i. C i ≡ bit_xor (P i) (O i)))
 
 -- the feedback families have the same equations both ways, and use the cipher forward only
 abbrev pub Deciphers : Family → (ℕ → ℕ) → (ℕ → ℕ) → ℕ → ℕ → (ℕ → ℕ) → (ℕ → ℕ) → (ℕ → ℕ) → ℕ → Type 0
 Deciphers Codebook F G w δ IV P C n = Up-to n (λ i. P i ≡ G (C i))
-Deciphers Chaining F G w δ IV P C n = Up-to n (λ i. P i ≡ bitXor (G (C i)) (back δ IV C i))
+Deciphers Chaining F G w δ IV P C n = Up-to n (λ i. P i ≡ bit_xor (G (C i)) (back δ IV C i))
 Deciphers CipherFeedback F G w δ IV P C n = Enciphers CipherFeedback F w δ IV P C n
 Deciphers OutputFeedback F G w δ IV P C n = Enciphers OutputFeedback F w δ IV P C n
 
 -- the lists ps and cs obey the equations of a mode, from ps to cs or from cs to ps
 abbrev pub From-plain : (ℕ → ℕ) → Mode → List ℕ → List ℕ → List ℕ → Type 0
-From-plain F m ivs ps cs = Enciphers (row m .family) F (row m .width) (row m .values) (unit ivs) (unit ps) (unit cs) (length ps)
+From-plain F m ivs ps cs = Enciphers (row m).family F (row m).width (row m).values (unit ivs) (unit ps) (unit cs) (length ps)
 
 abbrev pub From-ciphered : (ℕ → ℕ) → (ℕ → ℕ) → Mode → List ℕ → List ℕ → List ℕ → Type 0
-From-ciphered F G m ivs ps cs = Deciphers (row m .family) F G (row m .width) (row m .values) (unit ivs) (unit ps) (unit cs) (length cs)
+From-ciphered F G m ivs ps cs = Deciphers (row m).family F G (row m).width (row m).values (unit ivs) (unit ps) (unit cs) (length cs)
 
 -- what is sent and what is received for the units us obey the equations, and no other list of that length does
 pub record Obeyed (F G : ℕ → ℕ) (m : Mode) (ivs us : List ℕ) : Type 0 where
@@ -61,4 +55,4 @@ pub record Obeyed (F G : ℕ → ℕ) (m : Mode) (ivs us : List ℕ) : Type 0 wh
   pub receives-only : (ps : List ℕ) → length ps ≡ length us → From-ciphered F G m ivs ps us → ps ≡ received F G m ivs us
 
 abbrev pub Equations : Type 0
-Equations = (F G : ℕ → ℕ) (m : Mode) (ivs us : List ℕ) → length ivs ≡ row m .values → Obeyed F G m ivs us
+Equations = (F G : ℕ → ℕ) (m : Mode) (ivs us : List ℕ) → length ivs ≡ (row m).values → Obeyed F G m ivs us

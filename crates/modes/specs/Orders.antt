@@ -1,20 +1,11 @@
 -- Checking an opening: a code and the bytes of the initial values.
-use mathlib.Core.Path.{_≡_}
-use mathlib.Core.List.{List}
-use mathlib.Core.Bool.{cond}
-use Prim.Native.Nat.{ℕ, _*_, _<_, _^_}
-use lib.Dec.{eqb}
-use lib.ListN.{length, getD}
-use Rattle·std.specs.declared.option.Option.{Option}
-use Rattle·std.specs.declared.option.Option.the-variants.{Some, None}
-use Rattle·std.specs.declared.result.Result.{Result}
-use Rattle·std.specs.declared.result.Result.the-variants.{Ok, Err}
-use Rattle·refusals.specs.declared.Refusal.{Refusal}
-use Rattle·refusals.specs.declared.Refusal.the-variants.{UnknownCode, InitialValueLength}
-use Rattle·modes·specs.declared.mode.Mode.{Mode}
-use Rattle·modes·specs.declared.order.Order.{Order}
-use Rattle·modes·specs.Table.{row, withCode}
-use Rattle·modes·specs.Values.{listed, blocksIn}
+use Rattle.std.specs.Prelude.{◌≡◌, ℕ, ◌*◌, ◌^◌, ◌<◌, cond, List, length, Some, None, Ok, Err, Option, Result, ◌==◌, slice_index}
+use Rattle.refusals.specs.declared.Refusal.{Refusal}
+use Rattle.refusals.specs.declared.Refusal.TheVariants.{UnknownCode, InitialValueLength}
+use Rattle.modes.specs.declared.mode.Mode.{Mode}
+use Rattle.modes.specs.declared.order.Order.{Order}
+use Rattle.modes.specs.Table.{row, with_code}
+use Rattle.modes.specs.Values.{listed, blocksIn}
 
 -- what an order says: its mode and its initial values, in their order
 pub record Opening : Type 0 where
@@ -22,7 +13,7 @@ pub record Opening : Type 0 where
   pub values : List ℕ
 
 abbrev pub opening : Order → Opening
-opening o = record { mode = o .mode; values = listed (o .values) }
+opening o = record { mode = o.mode; values = listed o.values }
 
 abbrev pub answered : Result Order Refusal → Result Opening Refusal
 answered (Ok o) = Ok (opening o)
@@ -31,8 +22,8 @@ answered (Err e) = Err e
 -- the opening of a mode with some bytes: their length must be eight for each initial value
 abbrev pub opened : Mode → List ℕ → Result Opening Refusal
 opened m bytes =
-    cond (eqb (length bytes) (8 * row m .values))
-    (Ok (record { mode = m; values = blocksIn (row m .values) bytes }))
+    cond (length bytes == 8 * (row m).values)
+    (Ok (record { mode = m; values = blocksIn (row m).values bytes }))
     (Err (InitialValueLength (length bytes)))
 
 abbrev pub openedBy : Option Mode → ℕ → List ℕ → Result Opening Refusal
@@ -41,13 +32,13 @@ openedBy (Some m) code bytes = opened m bytes
 
 -- the answer to a code and bytes
 abbrev pub checked : ℕ → List ℕ → Result Opening Refusal
-checked code bytes = openedBy (withCode code) code bytes
+checked code bytes = openedBy (with_code code) code bytes
 
 -- no order exists that checking would not pass: each answers some code and some bytes
 abbrev pub Orders-are-answers : Type 0
 Orders-are-answers =
     (o : Order) → (code : ℕ) × (bytes : List ℕ)
-    × ((code < 2 ^ 8) × ((k : ℕ) → k < length bytes → getD bytes k 0 < 2 ^ 8) × (checked code bytes ≡ Ok (opening o)))
+    × ((code < 2 ^ 8) × ((k : ℕ) → k < length bytes → slice_index bytes k < 2 ^ 8) × (checked code bytes ≡ Ok (opening o)))
 
 -- orders that say the same are the same value
 abbrev pub Same-opening-same-order : Type 0

@@ -1,9 +1,6 @@
 -- When the units of a stretch enter an engine of depth D, under a distance δ or none. Cycles and places count from 0: what enters in cycle t
 -- has t cycles before it.
-use mathlib.Core.Path.{_≡_}
-use Prim.Native.Nat.{ℕ, zero, suc, _+_, _-_, _*_, _/_, _<_, _≤_}
-use Rattle·std.specs.declared.option.Option.{Option}
-use Rattle·std.specs.declared.option.Option.the-variants.{Some, None}
+use Rattle.std.specs.Prelude.{◌≡◌, ℕ, zero, suc, ◌+◌, ◌-◌, ◌*◌, ◌/◌, ◌<◌, ◌≤◌, Some, None, Option, ◌≢◌}
 
 -- the cycle in which place j enters
 abbrev pub entry : ℕ → Option ℕ → ℕ → ℕ
@@ -30,7 +27,7 @@ drained D δ s = cost D δ s + drain D
 
 -- place j may enter in cycle t: its predecessor entered before, and the result at its distance came out before
 pub record May-enter (D : ℕ) (δ : Option ℕ) (j t : ℕ) : Type 0 where
-  pub in-order : (i : ℕ) → i + 1 ≡ j → entry D δ i < t
+  pub in_order : (i : ℕ) → i + 1 ≡ j → entry D δ i < t
   pub in-time : (d i : ℕ) → δ ≡ Some d → i + d ≡ j → leaving D δ i < t
 
 -- the rule: each place enters in the first cycle in which it may. A stretch ends as its last unit enters, and a drain as its last result
@@ -42,4 +39,4 @@ pub record Ruled (D : ℕ) (δ : Option ℕ) (j : ℕ) : Type 0 where
   pub emptied : drained D δ (j + 1) ≡ leaving D δ j + 1
 
 abbrev pub Schedule : Type 0
-Schedule = (D : ℕ) (δ : Option ℕ) → 1 ≤ D → (δ ≡ Some 0 → ⊥) → (j : ℕ) → Ruled D δ j
+Schedule = (D : ℕ) (δ : Option ℕ) → 1 ≤ D → (δ ≢ Some 0) → (j : ℕ) → Ruled D δ j

@@ -1,20 +1,13 @@
 -- The table of the modes. What a row does not hold follows from its family, width and number of initial values.
-use mathlib.Core.Path.{_≡_}
-use mathlib.Core.List.{List, [], _∷_}
-use mathlib.Core.Bool.{cond}
-use Prim.Native.Nat.{ℕ, _+_, _-_, _/_}
-use lib.Dec.{eqb}
-use lib.Chars.{codes}
-use Rattle·std.specs.declared.option.Option.{Option}
-use Rattle·std.specs.declared.option.Option.the-variants.{Some, None}
-use Rattle·modes·specs.declared.family.Family.{Family}
-use Rattle·modes·specs.declared.family.Family.the-variants.{Codebook, Chaining, CipherFeedback, OutputFeedback}
-use Rattle·modes·specs.declared.way.Way.{Way}
-use Rattle·modes·specs.declared.way.Way.the-variants.{Enciphering, Deciphering}
-use Rattle·modes·specs.declared.reach.Reach.{Reach}
-use Rattle·modes·specs.declared.mode.Row.{Row}
-use Rattle·modes·specs.declared.mode.Mode.{Mode}
-use Rattle·modes·specs.declared.mode.Mode.the-variants.{Ecb, Cbc, CbcInterleaved, Cfb64, Cfb8, Cfb1, CfbPipelined64, CfbPipelined8, CfbPipelined1, Ofb, OfbInterleaved}
+use Rattle.std.specs.Prelude.{◌≡◌, ℕ, ◌+◌, ◌-◌, ◌/◌, cond, List, [], ◌∷◌, Some, None, codes, Option, ◌==◌}
+use Rattle.modes.specs.declared.family.Family.{Family}
+use Rattle.modes.specs.declared.family.Family.TheVariants.{Codebook, Chaining, CipherFeedback, OutputFeedback}
+use Rattle.modes.specs.declared.way.Way.{Way}
+use Rattle.modes.specs.declared.way.Way.TheVariants.{Enciphering, Deciphering}
+use Rattle.modes.specs.declared.reach.Reach.{Reach}
+use Rattle.modes.specs.declared.mode.Row.{Row}
+use Rattle.modes.specs.declared.mode.Mode.{Mode}
+use Rattle.modes.specs.declared.mode.Mode.TheVariants.{Ecb, Cbc, CbcInterleaved, Cfb64, Cfb8, Cfb1, CfbPipelined64, CfbPipelined8, CfbPipelined1, Ofb, OfbInterleaved}
 
 abbrev pub row : Mode → Row
 row Ecb = record { code = 1; family = Codebook; width = 64; values = 0 }
@@ -46,17 +39,17 @@ named OfbInterleaved = codes "TOFB-I"
 -- the first of some modes with a code
 abbrev pub firstWith : ℕ → List Mode → Option Mode
 firstWith code [] = None
-firstWith code (m ∷ ms) = cond (eqb code (row m .code)) (Some m) (firstWith code ms)
+firstWith code (m ∷ ms) = cond (code == (row m).code) (Some m) (firstWith code ms)
 
 abbrev pub modes : List Mode
 modes = Ecb ∷ Cbc ∷ CbcInterleaved ∷ Cfb64 ∷ Cfb8 ∷ Cfb1 ∷ CfbPipelined64 ∷ CfbPipelined8 ∷ CfbPipelined1 ∷ Ofb ∷ OfbInterleaved ∷ []
 
-abbrev pub withCode : ℕ → Option Mode
-withCode code = firstWith code modes
+abbrev pub with_code : ℕ → Option Mode
+with_code code = firstWith code modes
 
 -- each mode has a code that names it and no other
 abbrev pub Codes-name-modes : Type 0
-Codes-name-modes = (m : Mode) → withCode (row m .code) ≡ Some m
+Codes-name-modes = (m : Mode) → with_code (row m).code ≡ Some m
 
 -- how far back the result lies that a unit waits for: a unit that is enciphered joins the ciphered unit δ before it, and in
 -- output feedback each way needs the output block δ before
@@ -83,11 +76,11 @@ reach CipherFeedback w δ = Some (record { first = δ; last = δ + 64 / w - 1 })
 reach OutputFeedback w δ = None
 
 -- the same of a mode
-abbrev pub distanceOf : Mode → Way → Option ℕ
-distanceOf m way = distance (row m .family) way (row m .values)
+abbrev pub distance_of : Mode → Way → Option ℕ
+distance_of m way = distance (row m).family way (row m).values
 
 abbrev pub memoryOf : Mode → Option ℕ
-memoryOf m = memory (row m .family) (row m .width) (row m .values)
+memoryOf m = memory (row m).family (row m).width (row m).values
 
 abbrev pub reachOf : Mode → Option Reach
-reachOf m = reach (row m .family) (row m .width) (row m .values)
+reachOf m = reach (row m).family (row m).width (row m).values

@@ -1,17 +1,10 @@
 -- Initial values, and how they lie in bytes: eight bytes each, highest byte first.
-use mathlib.Core.Path.{_≡_}
-use mathlib.Core.List.{List, [], _∷_, _++_}
-use mathlib.Core.Bool.{Bool, true, cond, _&&_}
-use Prim.Native.Nat.{ℕ, zero, suc, _+_, _*_, _^_, _<_}
-use lib.Dec.{eqb, ltb}
-use lib.ListN.{length, getD}
-use Rattle·std.specs.declared.option.Option.{Option}
-use Rattle·std.specs.declared.option.Option.the-variants.{Some, None}
-use Rattle·modes·specs.declared.values.InitialValues.{InitialValues}
-use Rattle·modes·specs.declared.values.InitialValues.the-variants.{Empty, One, Three}
-use Rattle·modes·specs.declared.mode.Mode.{Mode}
-use Rattle·cipher.specs.Bytes.{block-at}
-use Rattle·modes·specs.Table.{row}
+use Rattle.std.specs.Prelude.{◌≡◌, ℕ, zero, suc, ◌+◌, ◌*◌, ◌^◌, ◌<◌, Bool, true, cond, ◌&&◌, List, [], ◌∷◌, ◌++◌, length, Some, None, Option, ◌==◌, nat_lt, slice_index}
+use Rattle.modes.specs.declared.values.InitialValues.{InitialValues}
+use Rattle.modes.specs.declared.values.InitialValues.TheVariants.{Empty, One, Three}
+use Rattle.modes.specs.declared.mode.Mode.{Mode}
+use Rattle.cipher.specs.Bytes.{block_at}
+use Rattle.modes.specs.Table.{row}
 
 abbrev pub listed : InitialValues → List ℕ
 listed Empty = []
@@ -21,29 +14,29 @@ listed (Three a b c) = a ∷ b ∷ c ∷ []
 -- the values in some bytes, where there are 0, 8 or 24
 abbrev pub valuesIn : List ℕ → Option InitialValues
 valuesIn bytes =
-    cond (eqb (length bytes) 0) (Some Empty)
-    (cond (eqb (length bytes) 8) (Some (One (block-at bytes 0)))
-    (cond (eqb (length bytes) 24) (Some (Three (block-at bytes 0) (block-at bytes 8) (block-at bytes 16))) None))
+    cond (length bytes == 0) (Some Empty)
+    (cond (length bytes == 8) (Some (One (block_at bytes 0)))
+    (cond (length bytes == 24) (Some (Three (block_at bytes 0) (block_at bytes 8) (block_at bytes 16))) None))
 
 -- the first n blocks in some bytes
 abbrev pub blocksIn : ℕ → List ℕ → List ℕ
 blocksIn zero bytes = []
-blocksIn (suc n) bytes = blocksIn n bytes ++ block-at bytes (8 * n) ∷ []
+blocksIn (suc n) bytes = blocksIn n bytes ++ block_at bytes (8 * n) ∷ []
 
 -- each of some numbers is a block
 abbrev pub areBlocks : List ℕ → Bool
 areBlocks [] = true
-areBlocks (v ∷ vs) = ltb v (2 ^ 64) && areBlocks vs
+areBlocks (v ∷ vs) = nat_lt v (2 ^ 64) && areBlocks vs
 
 -- as many values as the mode has, each a block
 abbrev pub suits : Mode → InitialValues → Bool
-suits m values = eqb (length (listed values)) (row m .values) && areBlocks (listed values)
+suits m values = length (listed values) == (row m).values && areBlocks (listed values)
 
 -- each of a list of numbers is a unit of w bits
 abbrev pub Units : ℕ → List ℕ → Type 0
-Units w us = (k : ℕ) → k < length us → getD us k 0 < 2 ^ w
+Units w us = (k : ℕ) → k < length us → slice_index us k < 2 ^ w
 
 -- initial values with which a mode can begin
 pub record Begins (m : Mode) (ivs : List ℕ) : Type 0 where
-  pub count : length ivs ≡ row m .values
+  pub count : length ivs ≡ (row m).values
   pub blocks : Units 64 ivs

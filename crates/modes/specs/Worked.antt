@@ -1,9 +1,7 @@
 -- Worked values of the definitions.
-use mathlib.Core.List.{List, [], _∷_}
-use Prim.Native.Nat.{ℕ}
-use Rattle·std.specs.declared.option.Option.the-variants.{Some}
-use Rattle·modes·specs.Bits.{shifted}
-use Rattle·modes·specs.Schedule.{drained}
+use Rattle.std.specs.Prelude.{ℕ, List, [], ◌∷◌, Some}
+use Rattle.modes.specs.Bits.{shifted}
+use Rattle.modes.specs.Schedule.{drained}
 
 -- what is computed, and what it must be
 abbrev pub worked : List (ℕ × ℕ)

@@ -1,7 +1,7 @@
 //! The four families of modes. Each has one set of equations, over the width of a unit and the distance.
-ghost use mathlib.Core.Path.{_≡_};
-ghost use Prim.Native.Nat.{_+_, _<_, _≤_};
-ghost use Rattle·modes·specs.Table.{distance, memory, reach};
+ghost use Rattle.std.specs.Prelude.{◌≡◌, ◌+◌, ◌<◌, ◌≤◌};
+ghost use Rattle.modes.specs.Table.{distance, memory, reach};
+
 use super::reach::Reach;
 use super::way::Way;
 
@@ -20,7 +20,7 @@ pub enum Family {
 impl Family {
     // How far back the result lies that a unit waits for, in a mode with so many initial values.
     pub(crate) fn distance(self, way: Way, values: usize) -> Option<usize>
-        ensures { λ r. ⌜ r ≡ distance self way values ⌝ }
+        ensures { result ≡ distance self way values }
     {
         match (self, way) {
             (Family::Codebook, _) => None,
@@ -31,8 +31,8 @@ impl Family {
 
     // How many ciphered units before its own a plain unit rests on.
     pub(crate) fn memory(self, width: usize, values: usize) -> Option<usize>
-        requires { ⌜ (0 < width) × (width ≤ 64) × (values ≤ 3) ⌝ }
-        ensures { λ r. ⌜ r ≡ memory self width values ⌝ }
+        requires { (0 < width) × (width ≤ 64) × (values ≤ 3) }
+        ensures { result ≡ memory self width values }
     {
         match self {
             Family::Codebook => Some(0),
@@ -44,8 +44,8 @@ impl Family {
 
     // Which plain units behind it a ciphered unit is used for.
     pub(crate) fn reach(self, width: usize, values: usize) -> Option<Reach>
-        requires { ⌜ (0 < width) × (width ≤ 64) × (values ≤ 3) ⌝ }
-        ensures { λ r. ⌜ r ≡ reach self width values ⌝ }
+        requires { (0 < width) × (width ≤ 64) × (values ≤ 3) }
+        ensures { result ≡ reach self width values }
     {
         match self {
             Family::Chaining => Some(Reach {

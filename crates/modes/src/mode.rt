@@ -1,13 +1,11 @@
 //! The eleven modes and the table of their figures.
-ghost use mathlib.Core.Path.{_≡_};
-ghost use Prim.Native.Nat.{_<_, _≤_, _^_};
-ghost use lib.Dec.{ltb};
-ghost use Rattle·std.specs.declared.option.Option.the-variants.{Some};
-ghost use Rattle·modes·specs.Table.{row, withCode, named, distanceOf, memoryOf, reachOf, Codes-name-modes};
-ghost use Rattle·modes·specs.Bits.{leftmost, shifted};
-ghost use Rattle·modes·specs.Equations.{Equations};
-ghost use Rattle·modes·specs.Laws.{Units-give-units, Prefix, Restoring, Recovery, Damage};
-ghost use Rattle·modes·specs.Schedule.{Schedule};
+ghost use Rattle.std.specs.Prelude.{◌≡◌, ◌^◌, ◌<◌, ◌≤◌, Some, ◌≢◌, nat_lt};
+ghost use Rattle.modes.specs.Table.{row, with_code, named, distance_of, memoryOf, reachOf, Codes-name-modes};
+ghost use Rattle.modes.specs.Bits.{leftmost, shifted};
+ghost use Rattle.modes.specs.Equations.{Equations};
+ghost use Rattle.modes.specs.Laws.{Units-give-units, Prefix, Restoring, Recovery, Damage};
+ghost use Rattle.modes.specs.Schedule.{Schedule};
+
 use super::family::Family;
 use super::reach::Reach;
 use super::way::Way;
@@ -42,7 +40,7 @@ struct Row {
 
 impl Row {
     fn new(code: u8, family: Family, width: usize, values: usize) -> Self
-        ensures { λ r. ⌜ r ≡ record { code = code; family = family; width = width; values = values } ⌝ }
+        ensures { result ≡ record { code = code; family = family; width = width; values = values } }
     {
         Row {
             code,
@@ -55,7 +53,7 @@ impl Row {
 
 impl Mode {
     fn row(self) -> Row
-        ensures { λ r. ⌜ r ≡ row self ⌝ }
+        ensures { result ≡ row self }
     {
         match self {
             Mode::Ecb => Row::new(1, Family::Codebook, 64, 0),
@@ -74,7 +72,7 @@ impl Mode {
 
     /// The mode that a code names.
     pub fn from_code(code: u8) -> Option<Mode>
-        ensures { λ r. ⌜ r ≡ withCode code ⌝ }
+        ensures { result ≡ with_code code }
     {
         match code {
             1 => Some(Mode::Ecb),
@@ -94,15 +92,15 @@ impl Mode {
 
     /// The code that names the mode. Each mode has its own.
     pub fn code(self) -> u8
-        ensures value { λ r. ⌜ r ≡ row self .code ⌝ }
-        ensures naming { λ _. ⌜ Codes-name-modes ⌝ }
+        ensures value { result ≡ (row self).code }
+        ensures naming { Codes-name-modes }
     {
         self.row().code
     }
 
     /// The usual short name, the same for every width.
     pub fn name(self) -> &'static str
-        ensures { λ r. ⌜ now r ≡ named self ⌝ }
+        ensures { result.now ≡ named self }
     {
         match self {
             Mode::Ecb => "TECB",
@@ -117,18 +115,18 @@ impl Mode {
 
     /// The family, whose equations the mode obeys.
     pub fn family(self) -> Family
-        ensures value { λ r. ⌜ r ≡ row self .family ⌝ }
-        ensures equations { λ _. ⌜ Equations ⌝ }
+        ensures value { result ≡ (row self).family }
+        ensures equations { Equations }
     {
         self.row().family
     }
 
     /// How many bits a unit has. A list of units gives as many units, and a longer list begins with what a shorter one gives.
     pub fn width(self) -> usize
-        ensures value { λ r. ⌜ r ≡ row self .width ⌝ }
-        ensures within { λ r. ⌜ (0 < r) × (r ≤ 64) ⌝ }
-        ensures units { λ _. ⌜ Units-give-units ⌝ }
-        ensures prefix { λ _. ⌜ Prefix ⌝ }
+        ensures value { result ≡ (row self).width }
+        ensures within { (0 < result) × (result ≤ 64) }
+        ensures units { Units-give-units }
+        ensures prefix { Prefix }
     {
         self.row().width
     }
@@ -136,9 +134,9 @@ impl Mode {
     /// How many initial values the mode begins with. With the same ones and the same cipher, deciphering gives back what was
     /// enciphered.
     pub fn initial_values(self) -> usize
-        ensures value { λ r. ⌜ r ≡ row self .values ⌝ }
-        ensures within { λ r. ⌜ r ≤ 3 ⌝ }
-        ensures restoring { λ _. ⌜ Restoring ⌝ }
+        ensures value { result ≡ (row self).values }
+        ensures within { result ≤ 3 }
+        ensures restoring { Restoring }
     {
         self.row().values
     }
@@ -146,9 +144,9 @@ impl Mode {
     /// How far back the result lies that a unit must wait for; none where a unit waits for no result. A unit enters an engine in
     /// the first cycle that its predecessor and this result allow.
     pub fn distance(self, way: Way) -> Option<usize>
-        ensures value { λ r. ⌜ r ≡ distanceOf self way ⌝ }
-        ensures proper { λ r. ⌜ (r ≡ Some 0 → ⊥) ⌝ }
-        ensures schedule { λ _. ⌜ Schedule ⌝ }
+        ensures value { result ≡ distance_of self way }
+        ensures proper { result ≢ Some 0 }
+        ensures schedule { Schedule }
     {
         self.family().distance(way, self.initial_values())
     }
@@ -156,23 +154,23 @@ impl Mode {
     /// How many ciphered units before its own a plain unit rests on, so that a receiver recovers once they arrived; none for the
     /// output feedback modes, where a plain unit rests on its place.
     pub fn memory(self) -> Option<usize>
-        ensures value { λ r. ⌜ r ≡ memoryOf self ⌝ }
-        ensures recovery { λ _. ⌜ Recovery ⌝ }
+        ensures value { result ≡ memoryOf self }
+        ensures recovery { Recovery }
     {
         self.family().memory(self.width(), self.initial_values())
     }
 
     /// Which plain units behind an altered ciphered unit it can make wrong, besides its own.
     pub fn reach(self) -> Option<Reach>
-        ensures value { λ r. ⌜ r ≡ reachOf self ⌝ }
-        ensures damage { λ _. ⌜ Damage ⌝ }
+        ensures value { result ≡ reachOf self }
+        ensures damage { Damage }
     {
         self.family().reach(self.width(), self.initial_values())
     }
 
     /// Whether a number has no more bits than a unit.
     pub fn admits(self, unit: u64) -> bool
-        ensures { λ r. ⌜ r ≡ ltb unit (2 ^ (row self .width)) ⌝ }
+        ensures { result ≡ nat_lt unit (2 ^ (row self).width) }
     {
         let width = self.width();
         width >= 64 || unit >> width == 0
@@ -180,14 +178,14 @@ impl Mode {
 
     /// The leftmost bits of a block, as many as a unit has.
     pub fn leftmost(self, block: Block) -> u64
-        ensures { λ r. ⌜ r ≡ leftmost (row self .width) block ⌝ }
+        ensures { result ≡ leftmost (row self).width block }
     {
         block >> (64 - self.width())
     }
 
     /// A feedback register with as many of its first bits dropped as a unit has, and a unit appended.
     pub fn shifted(self, register: Block, unit: u64) -> Block
-        ensures { λ r. ⌜ r ≡ shifted (row self .width) register unit ⌝ }
+        ensures { result ≡ shifted (row self).width register unit }
     {
         let width = self.width();
         if width < 64 {

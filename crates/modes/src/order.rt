@@ -1,9 +1,9 @@
 //! What a run is opened with.
 pub mod checking;
 
-ghost use mathlib.Core.Path.{_≡_};
-ghost use mathlib.Core.Bool.{true};
-ghost use Rattle·modes·specs.Values.{suits};
+ghost use Rattle.std.specs.Prelude.{◌≡◌, true};
+ghost use Rattle.modes.specs.Values.{suits};
+
 use super::mode::Mode;
 use super::values::InitialValues;
 

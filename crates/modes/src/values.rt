@@ -1,7 +1,7 @@
 //! The initial values of a run, read from bytes.
-ghost use mathlib.Core.Path.{_≡_};
-ghost use lib.ListN.{length};
-ghost use Rattle·modes·specs.Values.{listed, valuesIn};
+ghost use Rattle.std.specs.Prelude.{◌≡◌, length};
+ghost use Rattle.modes.specs.Values.{listed, valuesIn};
+
 use cipher::Block;
 use cipher::bytes::block_at;
 
@@ -16,7 +16,7 @@ pub enum InitialValues {
 impl InitialValues {
     /// How many there are.
     pub(crate) fn count(self) -> usize
-        ensures { λ r. ⌜ r ≡ length (listed self) ⌝ }
+        ensures { result ≡ length (listed self) }
     {
         match self {
             Self::Empty => 0,
@@ -27,7 +27,7 @@ impl InitialValues {
 
     /// The values that lie in some bytes, eight bytes each, highest byte first; none where the bytes are too few or too many.
     pub(crate) fn read(bytes: &[u8]) -> Option<Self>
-        ensures { λ r. ⌜ r ≡ valuesIn (now (bytes .entry)) ⌝ }
+        ensures { result ≡ valuesIn bytes.now }
     {
         match bytes.len() {
             0 => Some(Self::Empty),

@@ -1,24 +1,24 @@
 -- The number and the detail of each refusal, as the user is told them.
-use Prim.Native.Nat.{ℕ}
-use Rattle·refusals·specs.declared.Refusal.{Refusal}
-use Rattle·refusals·specs.declared.Refusal.the-variants.{KeyLength, KeyParity, SameKeys, UnknownCode, InitialValueLength, OutputLength, UnitWidth, UnitLimit, FieldTruncated, FieldTag, TrailingBytes, FieldLength, UnknownDirection, DataLength, PartialUnit}
+use Rattle.std.specs.Prelude.{ℕ}
+use Rattle.refusals.specs.declared.Refusal.{Refusal}
+use Rattle.refusals.specs.declared.Refusal.TheVariants.{KeyLength, KeyParity, SameKeys, UnknownCode, InitialValueLength, OutputLength, UnitWidth, UnitLimit, FieldTruncated, FieldTag, TrailingBytes, FieldLength, UnknownDirection, DataLength, PartialUnit}
 
-abbrev pub numberOf : Refusal → ℕ
-numberOf (KeyLength length) = 1
-numberOf (KeyParity index) = 2
-numberOf SameKeys = 3
-numberOf (UnknownCode code) = 4
-numberOf (InitialValueLength length) = 5
-numberOf (OutputLength length) = 6
-numberOf (UnitWidth index) = 7
-numberOf (UnitLimit left) = 8
-numberOf (FieldTruncated offset) = 9
-numberOf (FieldTag offset) = 10
-numberOf (TrailingBytes offset) = 11
-numberOf (FieldLength tag) = 12
-numberOf (UnknownDirection direction) = 13
-numberOf (DataLength length) = 14
-numberOf (PartialUnit length) = 15
+abbrev pub number_of : Refusal → ℕ
+number_of (KeyLength length) = 1
+number_of (KeyParity index) = 2
+number_of SameKeys = 3
+number_of (UnknownCode code) = 4
+number_of (InitialValueLength length) = 5
+number_of (OutputLength length) = 6
+number_of (UnitWidth index) = 7
+number_of (UnitLimit left) = 8
+number_of (FieldTruncated offset) = 9
+number_of (FieldTag offset) = 10
+number_of (TrailingBytes offset) = 11
+number_of (FieldLength tag) = 12
+number_of (UnknownDirection direction) = 13
+number_of (DataLength length) = 14
+number_of (PartialUnit length) = 15
 
 abbrev pub detailOf : Refusal → ℕ
 detailOf (KeyLength length) = length

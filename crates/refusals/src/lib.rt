@@ -1,7 +1,8 @@
 //! Why a call is refused. Every layer refuses by this one type: a variant for each reason, with the
 //! number and the detail that the user is told.
-ghost use mathlib.Core.Path.{_≡_};
-ghost use Rattle·refusals·specs.Refusals.{numberOf, detailOf};
+ghost use Rattle.std.specs.Prelude.{◌≡◌};
+ghost use Rattle.refusals.specs.Refusals.{number_of, detailOf};
+
 use std::fmt;
 
 #[derive(Clone, Copy, PartialEq, Eq, Debug)]
@@ -41,7 +42,7 @@ pub enum Refusal {
 impl Refusal {
     /// The number that names the reason.
     pub fn number(self) -> u8
-        ensures { λ r. ⌜ r ≡ numberOf self ⌝ }
+        ensures { result ≡ number_of self }
     {
         match self {
             Refusal::KeyLength(_) => 1,
@@ -64,7 +65,7 @@ impl Refusal {
 
     /// The one number that goes with the reason.
     pub fn detail(self) -> u64
-        ensures { λ r. ⌜ r ≡ detailOf self ⌝ }
+        ensures { result ≡ detailOf self }
     {
         match self {
             Refusal::KeyLength(length) => length as u64,
@@ -86,7 +87,7 @@ impl Refusal {
     }
 }
 
-pub impl fmt::Display for Refusal as RefusalDisplay {
+impl fmt::Display for Refusal {
     fn fmt<W: fmt::Write>(&self, f: &mut fmt::Formatter<W>) -> fmt::Result {
         match *self {
             Refusal::KeyLength(length) => write!(f, "a key cannot have {length} bytes"),

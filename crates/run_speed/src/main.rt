@@ -1,15 +1,13 @@
 //! Times runs over the line: nanoseconds a unit, in tenths, for some codes. It measures only where it is given a word, since what it then prints is never the same.
+use anyhow::anyhow;
 use cipher::dea::Dea;
-use cipher::dea::blocks::DeaCipher;
 use engines::engine::Engine;
 use engines::line::Line;
-use engines::line::LineEngine;
 use modes::mode::Mode;
 use modes::order::Order;
 use runs::cartridge::Cartridge;
 use runs::run::EncipheringRun;
 use std::env;
-use std::error::AnyError;
 use std::time::Instant;
 
 /// Units of a feed, and feeds of a run.
@@ -43,12 +41,12 @@ fn whole_run(order: Order) -> u64 {
     cycles
 }
 
-fn time_code(rt: &LibcRuntime, code: u8) -> Result<(), AnyError> {
+fn time_code(rt: &HostRuntime, code: u8) -> anyhow::Result<()> {
     let Some(mode) = Mode::from_code(code) else {
-        return Err("no such mode".into());
+        return Err(anyhow!("no such mode"));
     };
     let Ok(order) = Order::check(code, &[0x5A; 24][0..8 * mode.initial_values()]) else {
-        return Err("the opening is refused".into());
+        return Err(anyhow!("the opening is refused"));
     };
     let mut least = u128::MAX;
     for _ in 0..ROUNDS {
@@ -61,13 +59,13 @@ fn time_code(rt: &LibcRuntime, code: u8) -> Result<(), AnyError> {
     }
     let name = mode.name();
     let tenths = least / (UNITS as u128 * FEEDS as u128 / 10);
-    println!(rt, "{name} {tenths}")?;
+    println!(rt; "{name} {tenths}")?;
     Ok(())
 }
 
-fn main(rt: LibcRuntime) -> Result<(), AnyError> {
+fn main(rt: HostRuntime) -> anyhow::Result<()> {
     if env::args(&rt)?.count() < 2 {
-        println!(rt, "measures only where it is given a word")?;
+        println!(rt; "measures only where it is given a word")?;
         return Ok(());
     }
     for code in 1..=3u8 {

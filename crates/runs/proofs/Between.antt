@@ -1,53 +1,51 @@
 -- What a sending and a receiving run owe each other, by the theorem over lists of calls.
-use mathlib.Core.Path.{refl, sym, ap, subst, _∙_}
-use mathlib.Core.Bool.{true}
-use mathlib.Core.Logic.{inl}
-use Rattle·cipher.specs.Undoing.{Undo}
-use Rattle·engines.specs.Machines.{Machine}
-use Rattle·modes.specs.Laws.{Ends}
-use Rattle·calls.specs.Calls.{Calls}
-use Rattle·calls.specs.Runs.{run-of, runs-of, Among}
-use Rattle·calls.specs.Theorem.{Pair}
-use Rattle·calls.proofs.Counting.{newest-run}
-use Rattle·calls.proofs.Whole.{theorem}
-use Rattle·runs·specs.declared.frame.Frame.{Frame}
-use Rattle·runs·specs.Ends.{One-cipher, Between}
+use Rattle.std.proofs.Common.{true, sym, refl, ap, ◌∙◌, subst, inl}
+use Rattle.cipher.specs.Undoing.{Undo}
+use Rattle.engines.specs.Machines.{Machine}
+use Rattle.modes.specs.Laws.{Ends}
+use Rattle.calls.specs.Calls.{Calls}
+use Rattle.calls.specs.Runs.{run_of, runs_of, Among}
+use Rattle.calls.specs.Theorem.{Pair}
+use Rattle.calls.proofs.Counting.{newest-run}
+use Rattle.calls.proofs.Whole.{theorem}
+use Rattle.runs.specs.declared.frame.Frame.{Frame}
+use Rattle.runs.specs.Ends.{One-cipher, Between}
 
 -- ciphers that are one forward are one inverse
-ends-of : (mach mach′ : Machine) → Undo (mach .forward) (mach .inverse) → Undo (mach′ .forward) (mach′ .inverse) → One-cipher mach mach′
-    → Ends (mach .forward) (mach .inverse) (mach′ .forward) (mach′ .inverse)
-ends-of mach mach′ undo undo′ one =
+ends_of : (mach mach' : Machine) → Undo mach.forward mach.inverse → Undo mach'.forward mach'.inverse → One-cipher mach mach'
+    → Ends mach.forward mach.inverse mach'.forward mach'.inverse
+ends_of mach mach' undo undo' one =
     record {
       undo = undo;
       forward = one;
       inverse = λ b l.
-          let block = undo .inverse-is-block b l in
-          ap (mach′ .inverse) (sym (one (mach .inverse b) block ∙ undo .forth b l)) ∙ undo′ .back (mach .inverse b) block;
+          let block = undo.inverse-is-block b l in
+          ap mach'.inverse (sym (one (mach.inverse b) block ∙ undo.forth b l)) ∙ undo'.back (mach.inverse b) block;
     }
 
-open-among : (calls : Calls true) → Among (run-of calls) (runs-of calls)
-open-among calls = subst (Among (run-of calls)) (sym (newest-run calls)) (inl refl)
+open-among : (calls : Calls true) → Among (run_of calls) (runs_of calls)
+open-among calls = subst (Among (run_of calls)) (sym (newest-run calls)) (inl refl)
 
-pub between : (mach mach′ : Machine) (f f′ : Frame) → Undo (mach .forward) (mach .inverse) → Undo (mach′ .forward) (mach′ .inverse)
-    → Between mach mach′ f f′
-between mach mach′ f f′ undo undo′ calls calls′ stands stands′ sends receives mode one =
-    let pair : Pair (mach .forward) (mach .inverse) (mach′ .forward) (mach′ .inverse) (run-of calls) (run-of calls′) =
+pub between : (mach mach' : Machine) (f f' : Frame) → Undo mach.forward mach.inverse → Undo mach'.forward mach'.inverse
+    → Between mach mach' f f'
+between mach mach' f f' undo undo' calls calls' stands stands' sends receives mode one =
+    let pair : Pair mach.forward mach.inverse mach'.forward mach'.inverse (run_of calls) (run_of calls') =
     record {
-      ends = ends-of mach mach′ undo undo′ one;
-      depth = mach .depth;
-      depth′ = mach′ .depth;
-      deep = stands .at-work .sound .deep;
-      deep′ = stands′ .at-work .sound .deep;
+      ends = ends_of mach mach' undo undo' one;
+      depth = mach.depth;
+      depth' = mach'.depth;
+      deep = stands.at-work.sound.deep;
+      deep' = stands'.at-work.sound.deep;
       in-run = true;
-      in-run′ = true;
+      in-run' = true;
       calls = calls;
-      calls′ = calls′;
-      follows = stands .follows;
-      follows′ = stands′ .follows;
+      calls' = calls';
+      follows = stands.follows;
+      follows' = stands'.follows;
       sends = open-among calls;
-      receives = open-among calls′;
+      receives = open-among calls';
       enciphers = sends;
       deciphers = receives;
       one-mode = mode;
     } in
-    (theorem .restoring _ _ _ _ _ _ pair, theorem .recovery _ _ _ _ _ _ pair, theorem .damage _ _ _ _ _ _ pair)
+    (theorem.restoring _ _ _ _ _ _ pair, theorem.recovery _ _ _ _ _ _ pair, theorem.damage _ _ _ _ _ _ pair)

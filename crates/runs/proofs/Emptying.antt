@@ -1,42 +1,32 @@
 -- A feed with a drain after it, in a list of calls whose answers were due.
-use mathlib.Core.Path.{_≡_, refl, sym, ap, subst, _∙_}
-use mathlib.Core.Bool.{Bool, true, false, cond}
-use mathlib.Core.List.{List, [], _∷_, _++_}
-use mathlib.Core.Logic.{_⊎_, inl, inr, ⊎-elim}
-use Prim.Native.Nat.{ℕ, zero, suc, _+_, _-_, _*_, _≤_}
-use native.Mathlib.Omega.{arith}
-use native.Mathlib.Nat.{add-zero, div-zero}
-use lib.Dec.{leb, ltb}
-use lib.ListN.{length, drop, take, replicate}
-use Rattle·std.proofs.shelf.Counted.{length-map-counting}
-use Rattle·std.proofs.shelf.Lists.{length-append, length-drop, append-nil, append-assoc, drop-all, drop-drop, take-at, drop-at}
-use Rattle·std.proofs.shelf.Tests.{le-leb, ltb-false, cond-true, cases-lt}
-use Rattle·std.specs.declared.option.Option.{Option}
-use Rattle·std.specs.declared.option.Option.the-variants.{Some, None}
-use Rattle·std.specs.declared.result.Result.the-variants.{Ok, Err}
-use Rattle·refusals.specs.declared.Refusal.{Refusal}
-use Rattle·engines.specs.Machines.{Machine}
-use Rattle·engines.specs.Cycles.{emptied}
-use Rattle·modes.specs.Schedule.{entry, leaving}
-use Rattle·modes.specs.Table.{row}
-use Rattle·modes.specs.Values.{listed}
-use Rattle·modes.specs.Results.{results}
-use Rattle·modes.proofs.Entries.{entry-flat}
-use Rattle·modes.proofs.Receiving.{length-results}
-use Rattle·calls.specs.Stretches.{passed, inside}
-use Rattle·calls.specs.Calls.{Answer, Calls, gave, refused, fed, drained, order-of, way-of, taken, handed-out, stretch}
-use Rattle·calls.specs.Due.{distance-in, width-in, count-in, inside-in, cycles-passed, refusal-to-feed, Follows}
-use Rattle·calls.proofs.Stretching.{passed-is-cost}
-use Rattle·calls.proofs.Accepted.{drain-gives}
-use Rattle·calls.proofs.OpenRun.{progress, balanced}
-use Rattle·runs·specs.declared.frame.Frame.{Frame}
-use Rattle·runs·specs.Standing.{blocks, Same-engine}
-use Rattle·runs·specs.Stands.{Stands}
-use Rattle·runs·specs.Handing.{Answered, feed-refusal, Fed, Drained}
-use Rattle·runs·specs.Whole.{cycles-for}
-use Rattle·runs·specs.Emptying.{Emptied, Fed-empty}
-use Rattle·runs·proofs.Numbers.{inside-told, count-told-now, width-told, in-row-told}
-use Rattle·runs·proofs.DrainReplies.{drain-accepts}
+use Rattle.std.proofs.Common.{◌≡◌, ℕ, zero, suc, ◌+◌, ◌-◌, ◌*◌, ◌≤◌, Bool, true, false, cond, ltb, leb, ◌⊎◌, List, [], ◌∷◌, ◌++◌, length, take, drop, replicate, Some, None, Ok, Err, Option, sym, refl, ap, ◌∙◌, subst, inl, inr, ⊎_elim, add-zero, arith}
+use native.Mathlib.Nat.{div-zero}
+use Rattle.std.proofs.lemmas.List.FromFn.{length-map-range_with_len}
+use Rattle.std.proofs.lemmas.List.{length-append, length-drop, append-nil, append_assoc, drop_all, drop-drop, take_at, drop_at}
+use Rattle.std.proofs.lemmas.Bool.{le-leb, ltb-false, cond-true, cases_lt}
+use Rattle.refusals.specs.declared.Refusal.{Refusal}
+use Rattle.engines.specs.Machines.{Machine}
+use Rattle.engines.specs.Cycles.{emptied}
+use Rattle.modes.specs.Schedule.{entry, leaving}
+use Rattle.modes.specs.Table.{row}
+use Rattle.modes.specs.Values.{listed}
+use Rattle.modes.specs.Results.{results}
+use Rattle.modes.proofs.Entries.{entry-flat}
+use Rattle.modes.proofs.Receiving.{length-results}
+use Rattle.calls.specs.Stretches.{passed, inside}
+use Rattle.calls.specs.Calls.{Answer, Calls, gave, refused, fed, drained, order-of, way_of, taken, handed_out, stretch}
+use Rattle.calls.specs.Due.{distance-in, width-in, count-in, inside-in, cycles-passed, refusal-to-feed, Follows}
+use Rattle.calls.proofs.Stretching.{passed-is-cost}
+use Rattle.calls.proofs.Accepted.{drain-gives}
+use Rattle.calls.proofs.OpenRun.{progress, balanced}
+use Rattle.runs.specs.declared.frame.Frame.{Frame}
+use Rattle.runs.specs.Standing.{blocks, Same-engine}
+use Rattle.runs.specs.Stands.{Stands}
+use Rattle.runs.specs.Handing.{Answered, feed-refusal, Fed, Drained}
+use Rattle.runs.specs.Whole.{cycles-for}
+use Rattle.runs.specs.Emptying.{Emptied, Fed-empty}
+use Rattle.runs.proofs.Numbers.{inside-told, count-told-now, width-told, in-row-told}
+use Rattle.runs.proofs.DrainReplies.{drain-accepts}
 
 -- ---- an engine with nothing in it
 
@@ -44,12 +34,12 @@ use Rattle·runs·proofs.DrainReplies.{drain-accepts}
 pub nothing-inside : (D : ℕ) (δ : Option ℕ) (s : ℕ) → inside D δ s ≡ 0 → (s ≡ 0) ⊎ (D ≤ 1)
 nothing-inside D δ zero e = inl refl
 nothing-inside D δ (suc s) e =
-    ⊎-elim
+    ⊎_elim
     (λ l. let last : cond {A = ℕ} (leb (entry D δ s + 1) (leaving D δ s)) 1 0 ≡ 1 =
     cond-true {A = ℕ} _ 1 0 (le-leb (entry D δ s + 1) (leaving D δ s) (omega arith)) in
     absurd (omega arith))
     (λ l. inr l)
-    (cases-lt 1 D)
+    (cases_lt 1 D)
 
 -- there each unit costs one cycle
 entry-one-deep : (δ : Option ℕ) (j : ℕ) → entry 1 δ j ≡ j
@@ -64,7 +54,7 @@ passed-one-deep D δ (suc s) e = let one : entry D δ s ≡ s = ap (λ d. entry 
 -- units behind a stretch that left nothing inside cost what they cost as a stretch of their own
 passed-behind : (D : ℕ) (δ : Option ℕ) (s n : ℕ) → 1 ≤ D → inside D δ s ≡ 0 → passed D δ (s + n) - passed D δ s ≡ passed D δ n
 passed-behind D δ s n deep quiet =
-    ⊎-elim
+    ⊎_elim
     (λ e. let k : s + n ≡ n = omega arith in
     let p : passed D δ (s + n) ≡ passed D δ n = ap (passed D δ) k in
     let q : passed D δ s ≡ 0 = ap (passed D δ) e in
@@ -74,52 +64,52 @@ passed-behind D δ s n deep quiet =
     (nothing-inside D δ s quiet)
 
 -- no blocks: every place is empty
-no-blocks : (places : List (Option ℕ)) → blocks places ≡ 0 → places ≡ replicate (length places) None
-no-blocks [] e = refl
-no-blocks (None ∷ places) e = ap (λ xs. None ∷ xs) (no-blocks places e)
-no-blocks (Some b ∷ places) e = absurd (omega arith)
+no_blocks : (places : List (Option ℕ)) → blocks places ≡ 0 → places ≡ replicate (length places) None
+no_blocks [] e = refl
+no_blocks (None ∷ places) e = ap (λ xs. None ∷ xs) (no_blocks places e)
+no_blocks (Some b ∷ places) e = absurd (omega arith)
 
-pub same-then : (mach mach′ mach″ : Machine) → Same-engine mach mach′ → Same-engine mach′ mach″ → Same-engine mach mach″
-same-then mach mach′ mach″ p q = (q .0 ∙ p .0, q .1 ∙ p .1, q .2 ∙ p .2)
+pub same_then : (mach mach' mach'' : Machine) → Same-engine mach mach' → Same-engine mach' mach'' → Same-engine mach mach''
+same_then mach mach' mach'' p q = (q.0 ∙ p.0, q.1 ∙ p.1, q.2 ∙ p.2)
 
 -- ---- a run that stands for calls
 
 module _ (mach : Machine) (f : Frame) (calls : Calls true) (stands : Stands mach f calls) where
   -- what a feed is refused, by what the run remembers
   pub refusal-told : (us : List ℕ) (room : ℕ)
-      → feed-refusal f us room ≡ refusal-to-feed (inside-in (mach .depth) calls) (width-in calls) (count-in calls) us room (gave [])
+      → feed-refusal f us room ≡ refusal-to-feed (inside-in mach.depth calls) (width-in calls) (count-in calls) us room (gave [])
   refusal-told us room =
-      ap (λ n. refusal-to-feed n (row (f .mode) .width) (f .before + f .taken) us room (gave [])) (inside-told mach f calls stands)
-      ∙ ap (λ n. refusal-to-feed (inside-in (mach .depth) calls) n (f .before + f .taken) us room (gave [])) (width-told mach f calls stands)
-      ∙ ap (λ n. refusal-to-feed (inside-in (mach .depth) calls) (width-in calls) n us room (gave [])) (count-told-now mach f calls stands)
+      ap (λ n. refusal-to-feed n (row f.mode).width (f.before + f.taken) us room (gave [])) (inside-told mach f calls stands)
+      ∙ ap (λ n. refusal-to-feed (inside-in mach.depth calls) n (f.before + f.taken) us room (gave [])) (width-told mach f calls stands)
+      ∙ ap (λ n. refusal-to-feed (inside-in mach.depth calls) (width-in calls) n us room (gave [])) (count-told-now mach f calls stands)
 
   -- with nothing inside all results are out
-  pub results-out : inside-in (mach .depth) calls ≡ 0
-      → handed-out calls ≡ results (mach .forward) (mach .inverse) (order-of calls .mode) (way-of calls) (listed (order-of calls .values)) (taken calls) (length (taken calls))
+  pub results-out : inside-in mach.depth calls ≡ 0
+      → handed_out calls ≡ results mach.forward mach.inverse (order-of calls).mode (way_of calls) (listed (order-of calls).values) (taken calls) (length (taken calls))
   results-out quiet =
-      let all : length (taken calls) - inside-in (mach .depth) calls ≡ length (taken calls) = omega arith in
-      progress _ _ _ calls (stands .follows) .front
-      ∙ ap (results (mach .forward) (mach .inverse) (order-of calls .mode) (way-of calls) (listed (order-of calls .values)) (taken calls)) all
+      let all : length (taken calls) - inside-in mach.depth calls ≡ length (taken calls) = omega arith in
+      (progress _ _ _ calls stands.follows).front
+      ∙ ap (results mach.forward mach.inverse (order-of calls).mode (way_of calls) (listed (order-of calls).values) (taken calls)) all
 
   -- and its engine rests
-  pub engine-rests : inside-in (mach .depth) calls ≡ 0 → mach ≡ emptied mach
+  pub engine-rests : inside-in mach.depth calls ≡ 0 → mach ≡ emptied mach
   engine-rests quiet =
-      let size : length (mach .row) ≡ mach .depth - 1 = ap length (stands .at-work .standing .line) ∙ length-map-counting _ _ _ in
-      let row : mach .row ≡ replicate (mach .depth - 1) None =
-      no-blocks (mach .row) (in-row-told mach f calls stands ∙ quiet) ∙ ap (λ n. replicate n None) size in
-      λ i. record { forward = mach .forward; inverse = mach .inverse; depth = mach .depth; row = row i }
+      let size : length mach.row ≡ mach.depth - 1 = ap length stands.at-work.standing.line ∙ length-map-range_with_len _ _ _ in
+      let row : mach.row ≡ replicate (mach.depth - 1) None =
+      no_blocks mach.row (in-row-told mach f calls stands ∙ quiet) ∙ ap (λ n. replicate n None) size in
+      λ i. record { forward = mach.forward; inverse = mach.inverse; depth = mach.depth; row = row i }
 
 -- ---- answers
 
 -- an answer that tells a number gave so many units, and one that tells a refusal refused so
 pub gave-by : (xs ys : List ℕ) (n : ℕ) (a : Answer) → Answered xs ys (Ok n) a
     → (hs : List ℕ) × (a ≡ gave hs) × (n ≡ length hs) × (ys ≡ hs ++ drop (length hs) xs)
-gave-by xs ys n (gave hs) p = (hs, refl, p .0, p .1)
+gave-by xs ys n (gave hs) p = (hs, refl, p.0, p.1)
 gave-by xs ys n (refused e) p = absurd p
 
 pub refused-by : (xs ys : List ℕ) (e : Refusal) (a : Answer) → Answered xs ys (Err e) a → (a ≡ refused e) × (ys ≡ xs)
 refused-by xs ys e (gave hs) p = absurd p
-refused-by xs ys e (refused e′) p = (ap refused (sym (p .0)), p .1)
+refused-by xs ys e (refused e') p = (ap refused (sym p.0), p.1)
 
 -- a feed that was not refused had room
 fed-room : (in-engine width count : ℕ) (us : List ℕ) (room : ℕ) (hs due : List ℕ)
@@ -127,7 +117,7 @@ fed-room : (in-engine width count : ℕ) (us : List ℕ) (room : ℕ) (hs due : 
 fed-room in-engine width count us room hs due e = ltb-false _ _ (passes (ltb room (in-engine + length us)) _ _ e)
   where
     passes : (small : Bool) (a : Refusal) (otherwise : Answer) → gave hs ≡ cond small (refused a) otherwise → small ≡ false
-    passes true a otherwise e = let z : _≡_ {A = ℕ} 0 1 = cc in absurd (omega arith)
+    passes true a otherwise e = let z : ◌≡◌ {A = ℕ} 0 1 = cc in absurd (omega arith)
     passes false a otherwise e = refl
 
 -- ---- units that were fed and drained
@@ -137,37 +127,37 @@ module _ (F G : ℕ → ℕ) (D : ℕ) (calls : Calls true) where
   pub fed-count : (us : List ℕ) (room : ℕ) (hs : List ℕ) → Follows F G D (fed us room (gave hs) calls)
       → length hs + inside-in D (fed us room (gave hs) calls) ≡ inside-in D calls + length us
   fed-count us room hs f =
-      omega (arith, balanced F G D calls (f .1), balanced F G D (fed us room (gave hs) calls) f, length-append (taken calls) us, length-append (handed-out calls) hs)
+      omega (arith, balanced F G D calls f.1, balanced F G D (fed us room (gave hs) calls) f, length-append (taken calls) us, length-append (handed_out calls) hs)
 
   -- a drain gives all that is inside
   pub drained-count : (room : ℕ) (ks : List ℕ) → Follows F G D (drained room (gave ks) calls) → length ks ≡ inside-in D calls
   drained-count room ks f =
       let n = length (taken calls) in
       let m = inside-in D calls in
-      let few : m ≤ n = omega (arith, balanced F G D calls (f .1)) in
-      ap length (drain-gives _ room ks _ (f .0))
+      let few : m ≤ n = omega (arith, balanced F G D calls f.1) in
+      ap length (drain-gives _ room ks _ f.0)
       ∙ length-drop (n - m) _
-      ∙ omega (arith, length-results F G (order-of calls .mode) (way-of calls) (listed (order-of calls .values)) (taken calls) n)
+      ∙ omega (arith, length-results F G (order-of calls).mode (way_of calls) (listed (order-of calls).values) (taken calls) n)
 
   -- so that nothing is left
   pub drained-empty : (room : ℕ) (ks : List ℕ) → Follows F G D (drained room (gave ks) calls) → inside-in D (drained room (gave ks) calls) ≡ 0
   drained-empty room [] f = sym (drained-count room [] f)
   drained-empty room (k ∷ ks) f = refl
 
-module _ (F G : ℕ → ℕ) (D : ℕ) (deep : 1 ≤ D) (calls : Calls true) (quiet : inside-in D calls ≡ 0) (room room′ : ℕ) (hs : List ℕ) where
+module _ (F G : ℕ → ℕ) (D : ℕ) (deep : 1 ≤ D) (calls : Calls true) (quiet : inside-in D calls ≡ 0) (room room' : ℕ) (hs : List ℕ) where
   -- where nothing was inside, the cycles are those of the schedule
-  pub cycles-of-feed : (us ks : List ℕ) → Follows F G D (drained room′ (gave ks) (fed us room (gave hs) calls))
-      → cycles-passed D (drained room′ (gave ks) (fed us room (gave hs) calls)) ≡ cycles-passed D calls + cycles-for D (distance-in calls) us
+  pub cycles-of-feed : (us ks : List ℕ) → Follows F G D (drained room' (gave ks) (fed us room (gave hs) calls))
+      → cycles-passed D (drained room' (gave ks) (fed us room (gave hs) calls)) ≡ cycles-passed D calls + cycles-for D (distance-in calls) us
   cycles-of-feed [] [] f = omega (arith, passed-behind D (distance-in calls) (stretch calls) 0 deep quiet)
   cycles-of-feed [] (k ∷ ks) f =
       let none : inside D (distance-in calls) (stretch calls + 0) ≡ 0 =
       ap (inside D (distance-in calls)) (add-zero (stretch calls)) ∙ quiet in
-      absurd (omega (arith, drained-count F G D (fed [] room (gave hs) calls) room′ (k ∷ ks) f))
+      absurd (omega (arith, drained-count F G D (fed [] room (gave hs) calls) room' (k ∷ ks) f))
   cycles-of-feed (u ∷ us) [] f =
       let n = length (u ∷ us) in
       let flat : D ≤ 1 =
-      ⊎-elim (λ e. absurd (omega arith)) (λ l. l)
-      (nothing-inside D (distance-in calls) (stretch calls + n) (sym (drained-count F G D (fed (u ∷ us) room (gave hs) calls) room′ [] f))) in
+      ⊎_elim (λ e. absurd (omega arith)) (λ l. l)
+      (nothing-inside D (distance-in calls) (stretch calls + n) (sym (drained-count F G D (fed (u ∷ us) room (gave hs) calls) room' [] f))) in
       omega (arith, passed-behind D (distance-in calls) (stretch calls) n deep quiet, passed-is-cost D (distance-in calls) n)
   cycles-of-feed (u ∷ us) (k ∷ ks) f =
       let n = length (u ∷ us) in
@@ -176,24 +166,24 @@ module _ (F G : ℕ → ℕ) (D : ℕ) (deep : 1 ≤ D) (calls : Calls true) (qu
 -- ---- a feed and a drain, by their contracts
 
 -- what is written behind what stands first
-pub written-behind : (xs ys ws zs hs ks : List ℕ) (given : ℕ) → given ≡ length hs → ys ≡ hs ++ drop (length hs) xs → ws ≡ drop given ys
+pub written_behind : (xs ys ws zs hs ks : List ℕ) (given : ℕ) → given ≡ length hs → ys ≡ hs ++ drop (length hs) xs → ws ≡ drop given ys
     → zs ≡ ks ++ drop (length ks) ws
     → take given ys ++ (zs ++ drop (length ys - given) (drop given ys)) ≡ (hs ++ ks) ++ drop (length (hs ++ ks)) xs
-written-behind xs ys ws zs hs ks given count output rest more =
-    let front : take given ys ≡ hs = ap (take given) output ∙ take-at hs (drop (length hs) xs) given (sym count) in
-    let left : ws ≡ drop (length hs) xs = rest ∙ ap (drop given) output ∙ drop-at hs (drop (length hs) xs) given (sym count) in
+written_behind xs ys ws zs hs ks given count output rest more =
+    let front : take given ys ≡ hs = ap (take given) output ∙ take_at hs (drop (length hs) xs) given (sym count) in
+    let left : ws ≡ drop (length hs) xs = rest ∙ ap (drop given) output ∙ drop_at hs (drop (length hs) xs) given (sym count) in
     let over : drop (length ks) ws ≡ drop (length (hs ++ ks)) xs =
     ap (drop (length ks)) left ∙ drop-drop (length ks) (length hs) xs ∙ ap (λ n. drop n xs) (sym (length-append hs ks)) in
-    ap (λ l. take given ys ++ (zs ++ l)) (drop-all (length ys - given) (drop given ys) (omega (arith, length-drop given ys)))
+    ap (λ l. take given ys ++ (zs ++ l)) (drop_all (length ys - given) (drop given ys) (omega (arith, length-drop given ys)))
     ∙ ap (λ l. take given ys ++ l) (append-nil zs ∙ more ∙ ap (λ l. ks ++ l) over)
     ∙ ap (λ l. l ++ (ks ++ drop (length (hs ++ ks)) xs)) front
-    ∙ sym (append-assoc hs ks (drop (length (hs ++ ks)) xs))
+    ∙ sym (append_assoc hs ks (drop (length (hs ++ ks)) xs))
 
 module _ (mach1 mach2 : Machine) (f1 f2 : Frame) (calls : Calls true) (us xs ys ws zs hs : List ℕ) (given : ℕ) (count : given ≡ length hs)
     (output : ys ≡ hs ++ drop (length hs) xs) (rest : ws ≡ drop given ys)
     (stands : Stands mach1 f1 (fed us (length xs) (gave hs) calls)) where
   rest-is : ws ≡ drop (length hs) xs
-  rest-is = rest ∙ ap (drop given) output ∙ drop-at hs (drop (length hs) xs) given (sym count)
+  rest-is = rest ∙ ap (drop given) output ∙ drop_at hs (drop (length hs) xs) given (sym count)
 
   room-left : length ws ≡ length xs - length hs
   room-left = ap length rest-is ∙ length-drop (length hs) xs
@@ -201,25 +191,25 @@ module _ (mach1 mach2 : Machine) (f1 f2 : Frame) (calls : Calls true) (us xs ys 
   -- the drain has room
   pub drain-fits : (e : Refusal) → Drained mach1 mach2 f1 f2 ws zs (Err e) → ⊥
   drain-fits e answers =
-      let f = stands .follows in
-      let fits : inside-in (mach1 .depth) (fed us (length xs) (gave hs) calls) ≤ length ws =
-      omega (arith, room-left, fed-count _ _ _ calls us (length xs) hs f, fed-room _ _ _ us (length xs) hs _ (f .0)) in
-      subst (Answered ws zs (Err e)) (drain-accepts _ (length ws) fits _) (answers (fed us (length xs) (gave hs) calls) stands .0)
+      let f = stands.follows in
+      let fits : inside-in mach1.depth (fed us (length xs) (gave hs) calls) ≤ length ws =
+      omega (arith, room-left, fed-count _ _ _ calls us (length xs) hs f, fed-room _ _ _ us (length xs) hs _ f.0) in
+      subst (Answered ws zs (Err e)) (drain-accepts _ (length ws) fits _) (answers (fed us (length xs) (gave hs) calls) stands).0
 
   pub emptied-by : (n : ℕ) → Drained mach1 mach2 f1 f2 ws zs (Ok n)
       → Emptied mach2 f2 calls us xs (take given ys ++ (zs ++ drop (length ys - given) (drop given ys))) (given + n)
   emptied-by n answers =
       let a = answers (fed us (length xs) (gave hs) calls) stands in
-      let p = gave-by ws zs n _ (a .0) in
-      let ks = p .0 in
+      let p = gave-by ws zs n _ a.0 in
+      let ks = p.0 in
       record {
         hs = hs;
         ks = ks;
-        count = omega (arith, p .2, length-append hs ks);
-        output = written-behind xs ys ws zs hs ks given count output rest (p .3);
+        count = omega (arith, p.2, length-append hs ks);
+        output = written_behind xs ys ws zs hs ks given count output rest p.3;
         stands =
             subst (λ room. Stands mach2 f2 (drained room (gave ks) (fed us (length xs) (gave hs) calls))) room-left
-            (subst (λ b. Stands mach2 f2 (drained (length ws) b (fed us (length xs) (gave hs) calls))) (p .1) (a .1));
+            (subst (λ b. Stands mach2 f2 (drained (length ws) b (fed us (length xs) (gave hs) calls))) p.1 a.1);
       }
 
 module _ (mach mach1 : Machine) (f f1 : Frame) (us xs ys : List ℕ) where
@@ -227,23 +217,23 @@ module _ (mach mach1 : Machine) (f f1 : Frame) (us xs ys : List ℕ) where
       → Fed-empty mach mach1 f f1 us xs ys (Err e)
   refused-at-once e refusal feeds calls stands =
       let a = feeds calls stands in
-      let p = refused-by xs ys e _ (a .0) in
-      (refusal, (p .1, subst (λ b. Stands mach1 f1 (fed us (length xs) b calls)) (p .0) (a .1)))
+      let p = refused-by xs ys e _ a.0 in
+      (refusal, (p.1, subst (λ b. Stands mach1 f1 (fed us (length xs) b calls)) p.0 a.1))
 
   module _ (mach2 : Machine) (f2 : Frame) (ws zs : List ℕ) (given : ℕ) (rest : ws ≡ drop given ys) (feeds : Fed mach mach1 f f1 us xs ys (Ok given)) where
     pub never-refused : (e : Refusal) → Drained mach1 mach2 f1 f2 ws zs (Err e) → (calls : Calls true) → Stands mach f calls → ⊥
     never-refused e drains calls stands =
         let a = feeds calls stands in
-        let p = gave-by xs ys given _ (a .0) in
-        drain-fits mach1 mach2 f1 f2 calls us xs ys ws zs (p .0) given (p .2) (p .3) rest
-        (subst (λ b. Stands mach1 f1 (fed us (length xs) b calls)) (p .1) (a .1)) e drains
+        let p = gave-by xs ys given _ a.0 in
+        drain-fits mach1 mach2 f1 f2 calls us xs ys ws zs p.0 given p.2 p.3 rest
+        (subst (λ b. Stands mach1 f1 (fed us (length xs) b calls)) p.1 a.1) e drains
 
     pub fed-and-drained : (n : ℕ) → gave [] ≡ feed-refusal f us (length xs) → Drained mach1 mach2 f1 f2 ws zs (Ok n)
         → Fed-empty mach mach2 f f2 us xs (take given ys ++ (zs ++ drop (length ys - given) (drop given ys))) (Ok (given + n))
     fed-and-drained n refusal drains calls stands =
         let a = feeds calls stands in
-        let p = gave-by xs ys given _ (a .0) in (
+        let p = gave-by xs ys given _ a.0 in (
           refusal,
-          emptied-by mach1 mach2 f1 f2 calls us xs ys ws zs (p .0) given (p .2) (p .3) rest
-              (subst (λ b. Stands mach1 f1 (fed us (length xs) b calls)) (p .1) (a .1)) n drains,
+          emptied-by mach1 mach2 f1 f2 calls us xs ys ws zs p.0 given p.2 p.3 rest
+              (subst (λ b. Stands mach1 f1 (fed us (length xs) b calls)) p.1 a.1) n drains,
         )

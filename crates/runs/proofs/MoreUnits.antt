@@ -1,63 +1,57 @@
 -- What a run has done stays as it was while more units come.
-use mathlib.Core.Path.{_≡_, refl, sym, ap, _∙_}
-use mathlib.Core.List.{List, _++_}
-use Prim.Native.Nat.{ℕ, _+_, _-_, _<_, _≤_}
-use native.Mathlib.Omega.{arith}
-use lib.ListN.{length, getD, drop}
-use Rattle·std.proofs.shelf.Lists.{getD-append-left, length-append, take-append-le}
-use Rattle·std.specs.declared.option.Option.{Option}
-use Rattle·std.specs.declared.option.Option.the-variants.{Some, None}
-use Rattle·engines.specs.Machines.{Machine, directed}
-use Rattle·modes.specs.declared.family.Family.{Family}
-use Rattle·modes.specs.declared.family.Family.the-variants.{Codebook, Chaining, CipherFeedback, OutputFeedback}
-use Rattle·modes.specs.declared.mode.Mode.{Mode}
-use Rattle·modes.specs.declared.way.Way.{Way}
-use Rattle·modes.specs.declared.way.Way.the-variants.{Enciphering, Deciphering}
-use Rattle·modes.specs.Results.{before, register, ciphered, enciphered}
-use Rattle·modes.specs.Table.{row, distanceOf}
-use Rattle·modes.proofs.Grown.{grown-same}
-use Rattle·runs·specs.Steps.{input-by, mask-by, direction-by, chained-by, chained, link, shift, result-at, mask-at, View}
-use Rattle·runs·specs.Standing.{Registered, chain-end, Standing}
-use Rattle·runs·proofs.Slots.{slot-same, map-same}
+use Rattle.std.proofs.Common.{◌≡◌, ℕ, ◌+◌, ◌-◌, ◌<◌, ◌≤◌, List, ◌++◌, length, get_or, drop, Some, None, Option, sym, refl, ap, ◌∙◌, arith}
+use Rattle.std.proofs.lemmas.List.{get_or_append_left, length-append, take-append-le}
+use Rattle.engines.specs.Machines.{Machine, directed}
+use Rattle.modes.specs.declared.family.Family.{Family}
+use Rattle.modes.specs.declared.family.Family.TheVariants.{Codebook, Chaining, CipherFeedback, OutputFeedback}
+use Rattle.modes.specs.declared.mode.Mode.{Mode}
+use Rattle.modes.specs.declared.way.Way.{Way}
+use Rattle.modes.specs.declared.way.Way.TheVariants.{Enciphering, Deciphering}
+use Rattle.modes.specs.Results.{before, register, ciphered, enciphered}
+use Rattle.modes.specs.Table.{row, distance_of}
+use Rattle.modes.proofs.Grown.{grown-same}
+use Rattle.runs.specs.Steps.{input-by, mask-by, direction-by, chained-by, chained, link, shift, result-at, mask_at, View}
+use Rattle.runs.specs.Standing.{Registered, chain-end, Standing}
+use Rattle.runs.proofs.Slots.{slot_same, map_same}
 
 enciphered-more : (F : ℕ → ℕ) (f : Family) (w : ℕ) (ivs us more : List ℕ) (n : ℕ) → n ≤ length us → enciphered F f w ivs us n ≡ enciphered F f w ivs (us ++ more) n
 enciphered-more F f w ivs us more n h =
-    grown-same _ _ n (λ i l. ap (ciphered F f w ivs (enciphered F f w ivs us i) i) (sym (getD-append-left us more 0 i (omega arith))))
+    grown-same _ _ n (λ i l. ap (ciphered F f w ivs (enciphered F f w ivs us i) i) (sym (get_or_append_left us more 0 i (omega arith))))
 
-chained-more : (F : ℕ → ℕ) (f : Family) (w : ℕ) (way : Way) (ivs us more : List ℕ) (n : ℕ) → n ≤ length us
+chained_more : (F : ℕ → ℕ) (f : Family) (w : ℕ) (way : Way) (ivs us more : List ℕ) (n : ℕ) → n ≤ length us
     → chained-by F f w way ivs us n ≡ chained-by F f w way ivs (us ++ more) n
-chained-more F Codebook w way ivs us more n h = sym (take-append-le n us more h)
-chained-more F Chaining w Enciphering ivs us more n h = enciphered-more F Chaining w ivs us more n h
-chained-more F Chaining w Deciphering ivs us more n h = sym (take-append-le n us more h)
-chained-more F CipherFeedback w Enciphering ivs us more n h = enciphered-more F CipherFeedback w ivs us more n h
-chained-more F CipherFeedback w Deciphering ivs us more n h = sym (take-append-le n us more h)
-chained-more F OutputFeedback w way ivs us more n h = refl
+chained_more F Codebook w way ivs us more n h = sym (take-append-le n us more h)
+chained_more F Chaining w Enciphering ivs us more n h = enciphered-more F Chaining w ivs us more n h
+chained_more F Chaining w Deciphering ivs us more n h = sym (take-append-le n us more h)
+chained_more F CipherFeedback w Enciphering ivs us more n h = enciphered-more F CipherFeedback w ivs us more n h
+chained_more F CipherFeedback w Deciphering ivs us more n h = sym (take-append-le n us more h)
+chained_more F OutputFeedback w way ivs us more n h = refl
 
 module _ (F G : ℕ → ℕ) (m : Mode) (way : Way) (ivs us more : List ℕ) where
-  chain-more : (n : ℕ) → n ≤ length us → chained F G m way ivs us n ≡ chained F G m way ivs (us ++ more) n
-  chain-more n h = chained-more F (row m .family) (row m .width) way ivs us more n h
+  chain_more : (n : ℕ) → n ≤ length us → chained F G m way ivs us n ≡ chained F G m way ivs (us ++ more) n
+  chain_more n h = chained_more F (row m).family (row m).width way ivs us more n h
 
-  unit-more : (i : ℕ) → i < length us → getD us i 0 ≡ getD (us ++ more) i 0
-  unit-more i h = sym (getD-append-left us more 0 i h)
+  unit-more : (i : ℕ) → i < length us → get_or us i 0 ≡ get_or (us ++ more) i 0
+  unit-more i h = sym (get_or_append_left us more 0 i h)
 
   shift-more : (i : ℕ) → i < length us → shift F G m way ivs us i ≡ shift F G m way ivs (us ++ more) i
-  shift-more i h = ap (λ c. register (row m .width) ivs c i) (chain-more i (omega arith))
+  shift-more i h = ap (λ c. register (row m).width ivs c i) (chain_more i (omega arith))
 
   link-more : (i : ℕ) → i < length us → link F G m way ivs us i ≡ link F G m way ivs (us ++ more) i
-  link-more i h = ap (λ c. before ivs c i) (chain-more i (omega arith))
+  link-more i h = ap (λ c. before ivs c i) (chain_more i (omega arith))
 
   result-more : (i : ℕ) → i < length us → result-at F G m way ivs us i ≡ result-at F G m way ivs (us ++ more) i
   result-more i h =
-      let input = input-by (row m .family) way in
-      ap (directed F G (direction-by (row m .family) way))
+      let input = input-by (row m).family way in
+      ap (directed F G (direction-by (row m).family way))
       (ap (λ u. input u (link F G m way ivs us i) (shift F G m way ivs us i)) (unit-more i h)
-      ∙ ap (λ l. input (getD (us ++ more) i 0) l (shift F G m way ivs us i)) (link-more i h)
-      ∙ ap (λ r. input (getD (us ++ more) i 0) (link F G m way ivs (us ++ more) i) r) (shift-more i h))
+      ∙ ap (λ l. input (get_or (us ++ more) i 0) l (shift F G m way ivs us i)) (link-more i h)
+      ∙ ap (λ r. input (get_or (us ++ more) i 0) (link F G m way ivs (us ++ more) i) r) (shift-more i h))
 
-  mask-more : (i : ℕ) → i < length us → mask-at F G m way ivs us i ≡ mask-at F G m way ivs (us ++ more) i
+  mask-more : (i : ℕ) → i < length us → mask_at F G m way ivs us i ≡ mask_at F G m way ivs (us ++ more) i
   mask-more i h =
-      ap (λ u. mask-by (row m .family) way u (link F G m way ivs us i)) (unit-more i h)
-      ∙ ap (mask-by (row m .family) way (getD (us ++ more) i 0)) (link-more i h)
+      ap (λ u. mask-by (row m).family way u (link F G m way ivs us i)) (unit-more i h)
+      ∙ ap (mask-by (row m).family way (get_or (us ++ more) i 0)) (link-more i h)
 
   registered-more : (f : Family) (n r : ℕ) → n ≤ length us → Registered f (shift F G m way ivs us) n r → Registered f (shift F G m way ivs (us ++ more)) n r
   registered-more Codebook n r h k = tt
@@ -72,24 +66,24 @@ chain-end-most (Some δ) a b n p q = q
 pub standing-more : (mach : Machine) (m : Mode) (way : Way) (ivs us more : List ℕ) (base s h t past : ℕ) (v : View)
     → Standing mach m way ivs us base s h t past v → Standing mach m way ivs (us ++ more) base s h t past v
 standing-more mach m way ivs us more base s h t past v st =
-    let F = mach .forward in
-    let G = mach .inverse in
-    let within = st .within in
-    let some = st .some in
-    let x = chain-end (distanceOf m way) (base + s) (base + h) in
+    let F = mach.forward in
+    let G = mach.inverse in
+    let within = st.within in
+    let some = st.some in
+    let x = chain-end (distance_of m way) (base + s) (base + h) in
     let len = length-append us more in
     record {
-      taken = st .taken;
+      taken = st.taken;
       within = omega arith;
-      some = st .some;
-      gone = st .gone;
-      here = st .here;
-      due = st .due;
-      line = st .line ∙ map-same _ _ t (mach .depth - 1)
-          (λ c _ _. slot-same (mach .depth) (distanceOf m way) _ _ s c (λ j l. result-more F G m way ivs us more (base + j) (omega arith)));
-      full = st .full;
-      masks = st .masks ∙ map-same _ _ (base + h) (s - h) (λ k a b. mask-more F G m way ivs us more k (omega arith));
-      links = st .links ∙ ap (λ c. drop x (ivs ++ c)) (chain-more F G m way ivs us more x (chain-end-most (distanceOf m way) (base + s) (base + h) (length us) (omega arith) (omega arith)));
-      registered = registered-more F G m way ivs us more (row m .family) (base + s) (v .register) within (st .registered);
-      clocked = st .clocked;
+      some = st.some;
+      gone = st.gone;
+      here = st.here;
+      due = st.due;
+      line = st.line ∙ map_same _ _ t (mach.depth - 1)
+          (λ c _ _. slot_same mach.depth (distance_of m way) _ _ s c (λ j l. result-more F G m way ivs us more (base + j) (omega arith)));
+      full = st.full;
+      masks = st.masks ∙ map_same _ _ (base + h) (s - h) (λ k a b. mask-more F G m way ivs us more k (omega arith));
+      links = st.links ∙ ap (λ c. drop x (ivs ++ c)) (chain_more F G m way ivs us more x (chain-end-most (distance_of m way) (base + s) (base + h) (length us) (omega arith) (omega arith)));
+      registered = registered-more F G m way ivs us more (row m).family (base + s) v.register within st.registered;
+      clocked = st.clocked;
     }

@@ -1,28 +1,26 @@
 -- What a run keeps from step to step.
-use mathlib.Core.Path.{_≡_, refl, ap, _∙_}
-use Prim.Native.Nat.{ℕ, _+_}
-use native.Mathlib.Omega.{arith}
-use Rattle·engines.specs.Machines.{Machine}
-use Rattle·runs·specs.declared.frame.Frame.{Frame}
-use Rattle·runs·specs.Standing.{Same-engine}
-use Rattle·runs·specs.Handing.{holding, Onward}
+use Rattle.std.proofs.Common.{◌≡◌, ℕ, ◌+◌, refl, ap, ◌∙◌, arith}
+use Rattle.engines.specs.Machines.{Machine}
+use Rattle.runs.specs.declared.frame.Frame.{Frame}
+use Rattle.runs.specs.Standing.{Same-engine}
+use Rattle.runs.specs.Handing.{holding, Onward}
 
 -- the same machine but for its row is one with another row
-pub same-holding : (mach mach′ : Machine) → Same-engine mach mach′ → mach′ ≡ holding mach (mach′ .row)
-same-holding mach mach′ same =
-    ap (λ F. record { forward = F; inverse = mach′ .inverse; depth = mach′ .depth; row = mach′ .row }) (same .0)
-    ∙ ap (λ G. record { forward = mach .forward; inverse = G; depth = mach′ .depth; row = mach′ .row }) (same .1)
-    ∙ ap (λ D. record { forward = mach .forward; inverse = mach .inverse; depth = D; row = mach′ .row }) (same .2)
+pub same-holding : (mach mach' : Machine) → Same-engine mach mach' → mach' ≡ holding mach mach'.row
+same-holding mach mach' same =
+    ap (λ F. record { forward = F; inverse = mach'.inverse; depth = mach'.depth; row = mach'.row }) same.0
+    ∙ ap (λ G. record { forward = mach.forward; inverse = G; depth = mach'.depth; row = mach'.row }) same.1
+    ∙ ap (λ D. record { forward = mach.forward; inverse = mach.inverse; depth = D; row = mach'.row }) same.2
 
 pub onward-none : (mach : Machine) (f : Frame) (given : ℕ) → Onward mach mach f f given given 0
 onward-none mach f given = record { engine = (refl, refl, refl); kept = (refl, refl, refl); room = omega arith; count = omega arith }
 
-pub onward-then : (mach mach′ mach″ : Machine) (f f′ f″ : Frame) (a b c m n : ℕ) → Onward mach mach′ f f′ a b m → Onward mach′ mach″ f′ f″ b c n
-    → Onward mach mach″ f f″ a c (m + n)
-onward-then mach mach′ mach″ f f′ f″ a b c m n p q =
+pub onward_then : (mach mach' mach'' : Machine) (f f' f'' : Frame) (a b c m n : ℕ) → Onward mach mach' f f' a b m → Onward mach' mach'' f' f'' b c n
+    → Onward mach mach'' f f'' a c (m + n)
+onward_then mach mach' mach'' f f' f'' a b c m n p q =
     record {
-      engine = (q .engine .0 ∙ p .engine .0, q .engine .1 ∙ p .engine .1, q .engine .2 ∙ p .engine .2);
-      kept = (q .kept .0 ∙ p .kept .0, q .kept .1 ∙ p .kept .1, q .kept .2 ∙ p .kept .2);
-      room = omega (arith, p .room, q .room);
-      count = omega (arith, p .count, q .count);
+      engine = (q.engine.0 ∙ p.engine.0, q.engine.1 ∙ p.engine.1, q.engine.2 ∙ p.engine.2);
+      kept = (q.kept.0 ∙ p.kept.0, q.kept.1 ∙ p.kept.1, q.kept.2 ∙ p.kept.2);
+      room = omega (arith, p.room, q.room);
+      count = omega (arith, p.count, q.count);
     }

@@ -1,30 +1,23 @@
 -- A whole run of two feeds, each with a drain.
-use mathlib.Core.Path.{_≡_, refl, sym, ap, _∙_}
-use mathlib.Core.Bool.{true}
-use mathlib.Core.List.{List, [], _++_}
-use Prim.Native.Nat.{ℕ, _+_, _-_}
-use native.Mathlib.Omega.{arith}
-use lib.ListN.{length, take, drop}
-use Rattle·std.proofs.shelf.Lists.{length-drop, append-assoc, append-nil}
-use Rattle·std.specs.declared.result.Result.{Result}
-use Rattle·std.specs.declared.result.Result.the-variants.{Ok, Err}
-use Rattle·refusals.specs.declared.Refusal.{Refusal}
-use Rattle·engines.specs.Machines.{Machine, resting}
-use Rattle·engines.specs.Cycles.{emptied}
-use Rattle·modes.specs.declared.way.Way.{Way}
-use Rattle·modes.specs.declared.order.Order.{Order}
-use Rattle·modes.specs.Table.{distanceOf}
-use Rattle·calls.specs.Calls.{Answer, gave, refused, Calls, new, started, fed, drained, order-of, way-of, taken, handed-out, count-before}
-use Rattle·calls.specs.Due.{width-in, count-in, inside-in, refusal-to-feed, Follows}
-use Rattle·calls.proofs.OpenRun.{balanced}
-use Rattle·runs·specs.declared.frame.Frame.{Frame}
-use Rattle·runs·specs.Standing.{Same-engine}
-use Rattle·runs·specs.Stands.{Stands, Tells}
-use Rattle·runs·specs.Handing.{feed-refusal}
-use Rattle·runs·specs.Whole.{Ending, unless-refused, refusal-behind, ending, cycles-in-two, in-two}
-use Rattle·runs·specs.Emptying.{Emptied, Fed-empty, Fed-twice}
-use Rattle·runs·proofs.Numbers.{count-told-now}
-use Rattle·runs·proofs.Emptying.{refusal-told, results-out, engine-rests, drained-empty, cycles-of-feed, written-behind}
+use Rattle.std.proofs.Common.{◌≡◌, ℕ, ◌+◌, ◌-◌, true, List, [], ◌++◌, length, take, drop, Ok, Err, Result, sym, refl, ap, ◌∙◌, arith}
+use Rattle.std.proofs.lemmas.List.{length-drop, append_assoc, append-nil}
+use Rattle.refusals.specs.declared.Refusal.{Refusal}
+use Rattle.engines.specs.Machines.{Machine, resting}
+use Rattle.engines.specs.Cycles.{emptied}
+use Rattle.modes.specs.declared.way.Way.{Way}
+use Rattle.modes.specs.declared.order.Order.{Order}
+use Rattle.modes.specs.Table.{distance_of}
+use Rattle.calls.specs.Calls.{Answer, gave, refused, Calls, new, started, fed, drained, order-of, way_of, taken, handed_out, count-before}
+use Rattle.calls.specs.Due.{width-in, count-in, inside-in, refusal-to-feed, Follows}
+use Rattle.calls.proofs.OpenRun.{balanced}
+use Rattle.runs.specs.declared.frame.Frame.{Frame}
+use Rattle.runs.specs.Standing.{Same-engine}
+use Rattle.runs.specs.Stands.{Stands, Tells}
+use Rattle.runs.specs.Handing.{feed-refusal}
+use Rattle.runs.specs.Whole.{Ending, unless-refused, refusal-behind, ending, cycles-in-two, in_two}
+use Rattle.runs.specs.Emptying.{Emptied, Fed-empty, Fed-twice}
+use Rattle.runs.proofs.Numbers.{count-told-now}
+use Rattle.runs.proofs.Emptying.{refusal-told, results-out, engine-rests, drained-empty, cycles-of-feed, written_behind}
 
 unless-ended : (a : Answer) (e : Refusal) (ends : Refusal → Ending) (on : Ending) → refused e ≡ a → ends e ≡ unless-refused a ends on
 unless-ended a e ends on = ap (λ b. unless-refused b ends on)
@@ -34,8 +27,8 @@ unless-on a hs ends on = ap (λ b. unless-refused b ends on)
 
 -- ---- the first run of a cartridge, with nothing inside
 
-module _ (mach : Machine) (f : Frame) (calls : Calls true) (stands : Stands mach f calls) (quiet : inside-in (mach .depth) calls ≡ 0)
-    (first-run : count-before calls ≡ 0) where
+module _ (mach : Machine) (f : Frame) (calls : Calls true) (stands : Stands mach f calls) (quiet : inside-in mach.depth calls ≡ 0)
+    (first_run : count-before calls ≡ 0) where
   -- what a further feed is refused
   refused-behind : (us xs : List ℕ) (room : ℕ) → room ≡ length xs - length (taken calls)
       → feed-refusal f us room ≡ refusal-behind (order-of calls) (taken calls) us xs
@@ -47,29 +40,29 @@ module _ (mach : Machine) (f : Frame) (calls : Calls true) (stands : Stands mach
       ∙ ap (λ n. refusal-to-feed 0 (width-in calls) (length (taken calls)) us n (gave [])) left
 
   -- all units are out
-  out-is-taken : length (handed-out calls) ≡ length (taken calls)
-  out-is-taken = omega (arith, balanced _ _ _ calls (stands .follows))
+  out-is-taken : length (handed_out calls) ≡ length (taken calls)
+  out-is-taken = omega (arith, balanced _ _ _ calls stands.follows)
 
   -- how it ends, if the results stand first in the output list
-  ended : (before : Machine) (xs ys : List ℕ) (r : Result ℕ Refusal) → Same-engine before mach → ys ≡ handed-out calls ++ drop (length (handed-out calls)) xs
-      → (record { answer = r; count = f .before + f .taken; output = ys } ≡ ending before (order-of calls) (way-of calls) (taken calls) xs r)
+  ended : (before : Machine) (xs ys : List ℕ) (r : Result ℕ Refusal) → Same-engine before mach → ys ≡ handed_out calls ++ drop (length (handed_out calls)) xs
+      → (record { answer = r; count = f.before + f.taken; output = ys } ≡ ending before (order-of calls) (way_of calls) (taken calls) xs r)
       × (mach ≡ emptied before)
   ended before xs ys r same output =
-      let rests : mach ≡ emptied before = engine-rests mach f calls stands quiet ∙ (λ i. resting (same .0 i) (same .1 i) (same .2 i)) in
-      let count : f .before + f .taken ≡ length (taken calls) = omega (arith, count-told-now mach f calls stands) in
-      let whole = output ∙ ap (λ n. handed-out calls ++ drop n xs) out-is-taken
+      let rests : mach ≡ emptied before = engine-rests mach f calls stands quiet ∙ (λ i. resting (same.0 i) (same.1 i) (same.2 i)) in
+      let count : f.before + f.taken ≡ length (taken calls) = omega (arith, count-told-now mach f calls stands) in
+      let whole = output ∙ ap (λ n. handed_out calls ++ drop n xs) out-is-taken
       ∙ ap (λ l. l ++ drop (length (taken calls)) xs) (results-out mach f calls stands quiet) in
-      ((λ i. record { answer = r; count = count i; output = whole i }) ∙ ap (λ m. ending m (order-of calls) (way-of calls) (taken calls) xs r) rests, rests)
+      ((λ i. record { answer = r; count = count i; output = whole i }) ∙ ap (λ m. ending m (order-of calls) (way_of calls) (taken calls) xs r) rests, rests)
 
 -- ---- two feeds
 
 pub first-refused : (mach mach1 : Machine) (f f1 : Frame) (first second xs ys : List ℕ) (e : Refusal) → Same-engine mach mach1
-    → Fed-empty mach mach1 f f1 first xs ys (Err e) → Fed-twice mach mach1 f (f1 .before + f1 .taken) first second xs ys (Err e)
+    → Fed-empty mach mach1 f f1 first xs ys (Err e) → Fed-twice mach mach1 f (f1.before + f1.taken) first second xs ys (Err e)
 first-refused mach mach1 f f1 first second xs ys e same feeds order way stands =
     let start = started order way new in
     let one = feeds start stands in
-    let p = ended mach1 f1 (fed first (length xs) (refused e) start) (one .1 .1) refl refl mach xs ys (Err e) same (one .1 .0) in
-    (p .0 ∙ unless-ended _ e _ _ (one .0 ∙ refused-behind mach f start stands refl refl first xs (length xs) (omega arith)), p .1)
+    let p = ended mach1 f1 (fed first (length xs) (refused e) start) one.1.1 refl refl mach xs ys (Err e) same one.1.0 in
+    (p.0 ∙ unless-ended _ e _ _ (one.0 ∙ refused-behind mach f start stands refl refl first xs (length xs) (omega arith)), p.1)
 
 -- the calls of a run that was fed and drained once
 abbrev once : Order → Way → (us : List ℕ) (room : ℕ) (hs ks : List ℕ) → Calls true
@@ -84,56 +77,56 @@ module _ (mach mach1 mach2 : Machine) (f f1 f2 : Frame) (first second xs ys ws z
   -- the first feed is accepted, and the second meets this
   on-to-second : (order : Order) (way : Way) → Stands mach f (started order way new) → gave [] ≡ refusal-behind order [] first xs
   on-to-second order way stands =
-      feeds (started order way new) stands .0 ∙ refused-behind mach f (started order way new) stands refl refl first xs (length xs) (omega arith)
+      (feeds (started order way new) stands).0 ∙ refused-behind mach f (started order way new) stands refl refl first xs (length xs) (omega arith)
 
   behind-once : (order : Order) (way : Way) (one : Emptied mach1 f1 (started order way new) first xs ys given)
       → feed-refusal f1 second (length ws) ≡ refusal-behind order first second xs
   behind-once order way one =
-      let calls = once order way first (length xs) (one .hs) (one .ks) in
-      let quiet = once-quiet _ _ _ order way first (length xs) (one .hs) (one .ks) (one .stands .follows) in
-      let count = one .count in
-      refused-behind mach1 f1 calls (one .stands) quiet refl second xs (length ws)
-      (ap length rest ∙ length-drop given ys ∙ omega (arith, out-is-taken mach1 f1 calls (one .stands) quiet refl))
+      let calls = once order way first (length xs) one.hs one.ks in
+      let quiet = once-quiet _ _ _ order way first (length xs) one.hs one.ks one.stands.follows in
+      let count = one.count in
+      refused-behind mach1 f1 calls one.stands quiet refl second xs (length ws)
+      (ap length rest ∙ length-drop given ys ∙ omega (arith, out-is-taken mach1 f1 calls one.stands quiet refl))
 
   pub second-refused : (e : Refusal) → Fed-empty mach1 mach2 f1 f2 second ws zs (Err e)
-      → Fed-twice mach mach2 f (f2 .before + f2 .taken) first second xs (take given ys ++ (zs ++ drop (length ys - given) (drop given ys))) (Err e)
+      → Fed-twice mach mach2 f (f2.before + f2.taken) first second xs (take given ys ++ (zs ++ drop (length ys - given) (drop given ys))) (Err e)
   second-refused e more order way stands =
-      let one = feeds (started order way new) stands .1 in
-      let calls = once order way first (length xs) (one .hs) (one .ks) in
-      let two = more calls (one .stands) in
-      let quiet = once-quiet _ _ _ order way first (length xs) (one .hs) (one .ks) (two .1 .1 .follows .1) in
-      let output = written-behind xs ys ws zs (one .hs ++ one .ks) [] given (one .count) (one .output) rest (two .1 .0)
-      ∙ ap (λ l. l ++ drop (length l) xs) (append-nil (one .hs ++ one .ks)) in
-      let p = ended mach2 f2 (fed second (length ws) (refused e) calls) (two .1 .1) quiet refl mach xs _ (Err e) same output in
-      (p .0 ∙ unless-ended _ e _ _ (two .0 ∙ behind-once order way one) ∙ unless-on _ [] _ _ (on-to-second order way stands), p .1)
+      let one = (feeds (started order way new) stands).1 in
+      let calls = once order way first (length xs) one.hs one.ks in
+      let two = more calls one.stands in
+      let quiet = once-quiet _ _ _ order way first (length xs) one.hs one.ks two.1.1.follows.1 in
+      let output = written_behind xs ys ws zs (one.hs ++ one.ks) [] given one.count one.output rest two.1.0
+      ∙ ap (λ l. l ++ drop (length l) xs) (append-nil (one.hs ++ one.ks)) in
+      let p = ended mach2 f2 (fed second (length ws) (refused e) calls) two.1.1 quiet refl mach xs _ (Err e) same output in
+      (p.0 ∙ unless-ended _ e _ _ (two.0 ∙ behind-once order way one) ∙ unless-on _ [] _ _ (on-to-second order way stands), p.1)
 
-  pub fed-twice : (n cycles : ℕ) → Fed-empty mach1 mach2 f1 f2 second ws zs (Ok n) → Tells mach2 f2 (λ told. told .cycles) cycles
-      → Fed-twice mach mach2 f (f2 .before + f2 .taken) first second xs (take given ys ++ (zs ++ drop (length ys - given) (drop given ys))) (Ok cycles)
+  pub fed-twice : (n cycles : ℕ) → Fed-empty mach1 mach2 f1 f2 second ws zs (Ok n) → Tells mach2 f2 (λ told. told.cycles) cycles
+      → Fed-twice mach mach2 f (f2.before + f2.taken) first second xs (take given ys ++ (zs ++ drop (length ys - given) (drop given ys))) (Ok cycles)
   fed-twice n cycles more tells order way stands =
       let start = started order way new in
-      let one = feeds start stands .1 in
-      let calls = once order way first (length xs) (one .hs) (one .ks) in
-      let t = more calls (one .stands) in
-      let two = t .1 in
-      let both = drained (length ws - length (two .hs)) (gave (two .ks)) (fed second (length ws) (gave (two .hs)) calls) in
-      let D = mach2 .depth in
-      let δ = distanceOf (order .mode) way in
-      let follows = two .stands .follows in
-      let deep = two .stands .at-work .sound .deep in
-      let quiet = once-quiet _ _ D order way first (length xs) (one .hs) (one .ks) (follows .1 .1) in
-      let output = written-behind xs ys ws zs (one .hs ++ one .ks) (two .hs ++ two .ks) given (one .count) (one .output) rest (two .output)
-      ∙ ap (λ l. l ++ drop (length l) xs) (sym (append-assoc (one .hs ++ one .ks) (two .hs) (two .ks))) in
-      let p = ended mach2 f2 both (two .stands) (drained-empty _ _ D (fed second (length ws) (gave (two .hs)) calls) (length ws - length (two .hs)) (two .ks) follows)
+      let one = (feeds start stands).1 in
+      let calls = once order way first (length xs) one.hs one.ks in
+      let t = more calls one.stands in
+      let two = t.1 in
+      let both = drained (length ws - length two.hs) (gave two.ks) (fed second (length ws) (gave two.hs) calls) in
+      let D = mach2.depth in
+      let δ = distance_of order.mode way in
+      let follows = two.stands.follows in
+      let deep = two.stands.at-work.sound.deep in
+      let quiet = once-quiet _ _ D order way first (length xs) one.hs one.ks follows.1.1 in
+      let output = written_behind xs ys ws zs (one.hs ++ one.ks) (two.hs ++ two.ks) given one.count one.output rest two.output
+      ∙ ap (λ l. l ++ drop (length l) xs) (sym (append_assoc (one.hs ++ one.ks) two.hs two.ks)) in
+      let p = ended mach2 f2 both two.stands (drained-empty _ _ D (fed second (length ws) (gave two.hs) calls) (length ws - length two.hs) two.ks follows)
       refl mach xs _ (Ok cycles) same output in
       let cost : cycles ≡ cycles-in-two mach2 order way first second =
-      tells both (two .stands)
-      ∙ cycles-of-feed _ _ D deep calls quiet (length ws) (length ws - length (two .hs)) (two .hs) second (two .ks) follows
-      ∙ omega (arith, cycles-of-feed _ _ D deep start refl (length xs) (length xs - length (one .hs)) (one .hs) first (one .ks) (follows .1 .1)) in (
-        p .0
-            ∙ ap (λ k. ending mach order way (first ++ second) xs (Ok k)) (cost ∙ ap (λ m. cycles-in-two m order way first second) (p .1))
-            ∙ unless-on _ [] _ _ (t .0 ∙ behind-once order way one)
+      tells both two.stands
+      ∙ cycles-of-feed _ _ D deep calls quiet (length ws) (length ws - length two.hs) two.hs second two.ks follows
+      ∙ omega (arith, cycles-of-feed _ _ D deep start refl (length xs) (length xs - length one.hs) one.hs first one.ks follows.1.1) in (
+        p.0
+            ∙ ap (λ k. ending mach order way (first ++ second) xs (Ok k)) (cost ∙ ap (λ m. cycles-in-two m order way first second) p.1)
+            ∙ unless-on _ [] _ _ (t.0 ∙ behind-once order way one)
             ∙ unless-on _ [] _ _ (on-to-second order way stands),
-        p .1,
+        p.1,
       )
 
 -- closing hands on the engine and the count
@@ -141,12 +134,12 @@ pub closed-then : (mach mach2 mach3 : Machine) (f : Frame) (n count : ℕ) (firs
     → Fed-twice mach mach2 f n first second xs ys r → Fed-twice mach mach3 f count first second xs ys r
 closed-then mach mach2 mach3 f n count first second xs ys r engine same twice order way stands =
     let p = twice order way stands in
-    (ap (λ k. record { answer = r; count = k; output = ys }) same ∙ p .0, engine ∙ p .1)
+    (ap (λ k. record { answer = r; count = k; output = ys }) same ∙ p.0, engine ∙ p.1)
 
 -- that the start empties the engine alters nothing of it
 pub from-new : (mach mach1 mach2 : Machine) (f : Frame) (order : Order) (way : Way) (count : ℕ) (first second xs ys : List ℕ) (r : Result ℕ Refusal)
     → mach1 ≡ emptied mach → Stands mach1 f (started order way new) → Fed-twice mach1 mach2 f count first second xs ys r
-    → (record { answer = r; count = count; output = ys } ≡ in-two mach order way first second xs) × (mach2 ≡ emptied mach)
+    → (record { answer = r; count = count; output = ys } ≡ in_two mach order way first second xs) × (mach2 ≡ emptied mach)
 from-new mach mach1 mach2 f order way count first second xs ys r empty stands twice =
     let p = twice order way stands in
-    (p .0 ∙ ap (λ m. in-two m order way first second xs) empty, p .1 ∙ ap emptied empty)
+    (p.0 ∙ ap (λ m. in_two m order way first second xs) empty, p.1 ∙ ap emptied empty)

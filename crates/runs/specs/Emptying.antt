@@ -1,21 +1,15 @@
 -- A feed with a drain after it, on a run that stands for any calls.
-use mathlib.Core.Path.{_≡_}
-use mathlib.Core.Bool.{true}
-use mathlib.Core.List.{List, _++_}
-use Prim.Native.Nat.{ℕ, _-_}
-use lib.ListN.{length, drop}
-use Rattle·std.specs.declared.result.Result.{Result}
-use Rattle·std.specs.declared.result.Result.the-variants.{Ok, Err}
-use Rattle·refusals.specs.declared.Refusal.{Refusal}
-use Rattle·engines.specs.Machines.{Machine}
-use Rattle·engines.specs.Cycles.{emptied}
-use Rattle·modes.specs.declared.way.Way.{Way}
-use Rattle·modes.specs.declared.order.Order.{Order}
-use Rattle·calls.specs.Calls.{gave, refused, Calls, new, started, fed, drained}
-use Rattle·runs·specs.declared.frame.Frame.{Frame}
-use Rattle·runs·specs.Stands.{Stands}
-use Rattle·runs·specs.Handing.{feed-refusal, refusal-in}
-use Rattle·runs·specs.Whole.{in-two}
+use Rattle.std.specs.Prelude.{◌≡◌, ℕ, ◌-◌, true, List, ◌++◌, length, drop, Ok, Err, Result}
+use Rattle.refusals.specs.declared.Refusal.{Refusal}
+use Rattle.engines.specs.Machines.{Machine}
+use Rattle.engines.specs.Cycles.{emptied}
+use Rattle.modes.specs.declared.way.Way.{Way}
+use Rattle.modes.specs.declared.order.Order.{Order}
+use Rattle.calls.specs.Calls.{gave, refused, Calls, new, started, fed, drained}
+use Rattle.runs.specs.declared.frame.Frame.{Frame}
+use Rattle.runs.specs.Stands.{Stands}
+use Rattle.runs.specs.Handing.{feed-refusal, refusal-in}
+use Rattle.runs.specs.Whole.{in_two}
 
 -- the run took the units us: the feed gave hs and the drain ks, n units in all; xs is the output list before, ys after
 pub record Emptied (mach : Machine) (f : Frame) (calls : Calls true) (us xs ys : List ℕ) (n : ℕ) : Type 0 where
@@ -31,12 +25,12 @@ Emptied-unless mach f calls us xs ys (Ok n) = Emptied mach f calls us xs ys n
 Emptied-unless mach f calls us xs ys (Err e) = (ys ≡ xs) × Stands mach f (fed us (length xs) (refused e) calls)
 
 -- whatever calls went before; the drain is never refused
-abbrev pub Fed-empty : (mach mach′ : Machine) (f f′ : Frame) (us xs ys : List ℕ) → Result ℕ Refusal → Type 0
-Fed-empty mach mach′ f f′ us xs ys r =
-    (calls : Calls true) → Stands mach f calls → (refusal-in r ≡ feed-refusal f us (length xs)) × Emptied-unless mach′ f′ calls us xs ys r
+abbrev pub Fed-empty : (mach mach' : Machine) (f f' : Frame) (us xs ys : List ℕ) → Result ℕ Refusal → Type 0
+Fed-empty mach mach' f f' us xs ys r =
+    (calls : Calls true) → Stands mach f calls → (refusal-in r ≡ feed-refusal f us (length xs)) × Emptied-unless mach' f' calls us xs ys r
 
 -- the same twice, from the start of a new cartridge's run on; count is what the cartridge tells then
-abbrev pub Fed-twice : (mach mach′ : Machine) → Frame → (count : ℕ) (first second xs ys : List ℕ) → Result ℕ Refusal → Type 0
-Fed-twice mach mach′ f count first second xs ys r =
+abbrev pub Fed-twice : (mach mach' : Machine) → Frame → (count : ℕ) (first second xs ys : List ℕ) → Result ℕ Refusal → Type 0
+Fed-twice mach mach' f count first second xs ys r =
     (order : Order) (way : Way) → Stands mach f (started order way new)
-    → (record { answer = r; count = count; output = ys } ≡ in-two mach order way first second xs) × (mach′ ≡ emptied mach)
+    → (record { answer = r; count = count; output = ys } ≡ in_two mach order way first second xs) × (mach' ≡ emptied mach)

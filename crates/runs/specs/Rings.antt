@@ -1,17 +1,13 @@
 -- What a ring holds, the oldest first.
-use mathlib.Core.List.{List, [], _∷_, _++_}
-use Prim.Native.Nat.{ℕ}
-use lib.ListN.{take, drop}
-use Rattle·std.specs.declared.option.Option.{Option}
-use Rattle·std.specs.declared.option.Option.the-variants.{Some, None}
-use Rattle·runs·specs.declared.ring.Ring.{Ring}
+use Rattle.std.specs.Prelude.{ℕ, List, [], ◌∷◌, ◌++◌, take, drop, Some, None, Option}
+use Rattle.runs.specs.declared.ring.Ring.{Ring}
 
 abbrev pub items : Ring → List ℕ
-items r = take (r .count) (drop (r .oldest) (r .places) ++ r .places)
+items r = take r.count (drop r.oldest r.places ++ r.places)
 
-abbrev pub first-of : List ℕ → Option ℕ
-first-of [] = None
-first-of (x ∷ xs) = Some x
+abbrev pub first_of : List ℕ → Option ℕ
+first_of [] = None
+first_of (x ∷ xs) = Some x
 
 -- how many: one or none
 abbrev pub one-if : Option ℕ → ℕ

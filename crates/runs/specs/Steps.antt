@@ -1,29 +1,22 @@
 -- A unit's way through the engine, by family: what goes in for it, in which direction, and what its result meets as it comes out.
-use mathlib.Core.Bool.{cond}
-use mathlib.Core.List.{List, [], _∷_, _++_}
-use Prim.Native.Nat.{ℕ, _+_, _%_, _^_}
-use lib.Bits.{bitXor}
-use lib.Dec.{ltb}
-use lib.ListN.{length, getD, take, drop}
-use Rattle·std.specs.declared.option.Option.{Option}
-use Rattle·std.specs.declared.option.Option.the-variants.{Some, None}
-use Rattle·modes.specs.declared.family.Family.{Family}
-use Rattle·modes.specs.declared.family.Family.the-variants.{Codebook, Chaining, CipherFeedback, OutputFeedback}
-use Rattle·modes.specs.declared.way.Way.{Way}
-use Rattle·modes.specs.declared.way.Way.the-variants.{Enciphering, Deciphering}
-use Rattle·modes.specs.declared.mode.Mode.{Mode}
-use Rattle·modes.specs.Bits.{leftmost, shifted}
-use Rattle·modes.specs.Table.{row, distanceOf}
-use Rattle·modes.specs.Results.{before, register, stream, enciphered}
-use Rattle·engines.specs.declared.work.Direction.{Direction}
-use Rattle·engines.specs.declared.work.Direction.the-variants.{Forward, Inverse}
-use Rattle·engines.specs.declared.work.Work.{Work}
-use Rattle·engines.specs.Machines.{directed}
+use Rattle.std.specs.Prelude.{ℕ, ◌+◌, ◌%◌, ◌^◌, cond, List, [], ◌∷◌, ◌++◌, length, take, drop, Some, None, Option, bit_xor, nat_lt, slice_index}
+use Rattle.modes.specs.declared.family.Family.{Family}
+use Rattle.modes.specs.declared.family.Family.TheVariants.{Codebook, Chaining, CipherFeedback, OutputFeedback}
+use Rattle.modes.specs.declared.way.Way.{Way}
+use Rattle.modes.specs.declared.way.Way.TheVariants.{Enciphering, Deciphering}
+use Rattle.modes.specs.declared.mode.Mode.{Mode}
+use Rattle.modes.specs.Bits.{leftmost, shifted}
+use Rattle.modes.specs.Table.{row, distance_of}
+use Rattle.modes.specs.Results.{before, register, stream, enciphered}
+use Rattle.engines.specs.declared.work.Direction.{Direction}
+use Rattle.engines.specs.declared.work.Direction.TheVariants.{Forward, Inverse}
+use Rattle.engines.specs.declared.work.Work.{Work}
+use Rattle.engines.specs.Machines.{directed}
 
 -- the input block: u is the unit, l what the chain has for it, r the register
 abbrev pub input-by : Family → Way → ℕ → ℕ → ℕ → ℕ
 input-by Codebook way u l r = u
-input-by Chaining Enciphering u l r = bitXor u l
+input-by Chaining Enciphering u l r = bit_xor u l
 input-by Chaining Deciphering u l r = u
 input-by CipherFeedback way u l r = r
 input-by OutputFeedback way u l r = l
@@ -72,7 +65,7 @@ chained-by F OutputFeedback w way ivs us n = stream F ivs n
 
 module _ (F G : ℕ → ℕ) (m : Mode) (way : Way) (ivs us : List ℕ) where
   abbrev pub chained : ℕ → List ℕ
-  chained n = chained-by F (row m .family) (row m .width) way ivs us n
+  chained n = chained-by F (row m).family (row m).width way ivs us n
 
   -- what the chain has for place i
   abbrev pub link : ℕ → ℕ
@@ -80,18 +73,18 @@ module _ (F G : ℕ → ℕ) (m : Mode) (way : Way) (ivs us : List ℕ) where
 
   -- the register as place i enters
   abbrev pub shift : ℕ → ℕ
-  shift i = register (row m .width) ivs (chained i) i
+  shift i = register (row m).width ivs (chained i) i
 
   -- the engine's result for place i
   abbrev pub result-at : ℕ → ℕ
-  result-at i = directed F G (direction-by (row m .family) way) (input-by (row m .family) way (getD us i 0) (link i) (shift i))
+  result-at i = directed F G (direction-by (row m).family way) (input-by (row m).family way (slice_index us i) (link i) (shift i))
 
-  abbrev pub mask-at : ℕ → ℕ
-  mask-at i = mask-by (row m .family) way (getD us i 0) (link i)
+  abbrev pub mask_at : ℕ → ℕ
+  mask_at i = mask-by (row m).family way (slice_index us i) (link i)
 
   -- the unit that is handed out for place i
   abbrev pub unit-at : ℕ → ℕ
-  unit-at i = bitXor (leftmost (row m .width) (result-at i)) (mask-at i)
+  unit-at i = bit_xor (leftmost (row m).width (result-at i)) (mask_at i)
 
 -- ---- what a run remembers besides its engine, and how it changes
 
@@ -116,51 +109,51 @@ abbrev pub chain-entered : Option ℕ → List ℕ → ℕ → List ℕ
 chain-entered None chain u = pushed chain u
 chain-entered (Some δ) chain u = chain
 
-abbrev pub chain-left : Option ℕ → List ℕ → ℕ → List ℕ
-chain-left None chain x = chain
-chain-left (Some δ) chain x = pushed chain x
+abbrev pub chain_left : Option ℕ → List ℕ → ℕ → List ℕ
+chain_left None chain x = chain
+chain_left (Some δ) chain x = pushed chain x
 
 module _ (m : Mode) (way : Way) where
   abbrev pub link-of : View → ℕ
-  link-of v = getD (v .chain) (link-place (distanceOf m way) (length (v .pending))) 0
+  link-of v = slice_index v.chain (link-place (distance_of m way) (length v.pending))
 
   -- the register for the next unit, where the chain has l for it
-  abbrev pub shift-from : View → ℕ → ℕ
-  shift-from v l = cond (ltb (v .taken) (row m .values)) l (shifted (row m .width) (v .register) l)
+  abbrev pub shift_from : View → ℕ → ℕ
+  shift_from v l = cond (nat_lt v.taken (row m).values) l (shifted (row m).width v.register l)
 
-  abbrev pub shift-of : View → ℕ
-  shift-of v = shift-from v (link-of v)
+  abbrev pub shift_of : View → ℕ
+  shift_of v = shift_from v (link-of v)
 
   -- what goes into the engine for unit u
   abbrev pub work-of : View → ℕ → Work
-  work-of v u = record { block = input-by (row m .family) way u (link-of v) (shift-of v); direction = direction-by (row m .family) way }
+  work-of v u = record { block = input-by (row m).family way u (link-of v) (shift_of v); direction = direction-by (row m).family way }
 
   -- unit u has entered
   abbrev pub entered : View → ℕ → View
   entered v u =
       record {
-        pending = v .pending ++ mask-by (row m .family) way u (link-of v) ∷ [];
-        chain = chain-entered (distanceOf m way) (v .chain) u;
-        register = register-by (row m .family) (v .register) (shift-of v);
-        taken = v .taken + 1;
-        cycles = v .cycles;
+        pending = v.pending ++ mask-by (row m).family way u (link-of v) ∷ [];
+        chain = chain-entered (distance_of m way) v.chain u;
+        register = register-by (row m).family v.register (shift_of v);
+        taken = v.taken + 1;
+        cycles = v.cycles;
       }
 
   -- the unit that block y becomes
   abbrev pub unit-of : View → ℕ → ℕ
-  unit-of v y = bitXor (leftmost (row m .width) y) (getD (v .pending) 0 0)
+  unit-of v y = bit_xor (leftmost (row m).width y) (slice_index v.pending 0)
 
   -- block y has come out
   abbrev pub left : View → ℕ → View
   left v y =
       record {
-        pending = drop 1 (v .pending);
-        chain = chain-left (distanceOf m way) (v .chain) (fed-back-by (row m .family) y (unit-of v y));
-        register = v .register;
-        taken = v .taken;
-        cycles = v .cycles;
+        pending = drop 1 v.pending;
+        chain = chain_left (distance_of m way) v.chain (fed-back-by (row m).family y (unit-of v y));
+        register = v.register;
+        taken = v.taken;
+        cycles = v.cycles;
       }
 
 -- a cycle is counted
 abbrev pub counted : View → View
-counted v = record { pending = v .pending; chain = v .chain; register = v .register; taken = v .taken; cycles = (v .cycles + 1) % 2 ^ 64 }
+counted v = record { pending = v.pending; chain = v.chain; register = v.register; taken = v.taken; cycles = (v.cycles + 1) % 2 ^ 64 }

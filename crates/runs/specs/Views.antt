@@ -1,32 +1,28 @@
 -- What a frame holds, as the steps see it.
-use mathlib.Core.Path.{_≡_}
-use Prim.Native.Nat.{ℕ, _<_}
-use lib.ListN.{length}
-use Rattle·std.specs.declared.option.Option.{Option}
-use Rattle·std.specs.declared.option.Option.the-variants.{Some, None}
-use Rattle·engines.specs.declared.work.Work.{Work}
-use Rattle·engines.specs.Depths.{greatest-depth}
-use Rattle·modes.specs.declared.mode.Mode.{Mode}
-use Rattle·modes.specs.declared.way.Way.{Way}
-use Rattle·runs·specs.declared.frame.Frame.{Frame}
-use Rattle·runs·specs.Rings.{items}
-use Rattle·runs·specs.Steps.{View, work-of, entered, unit-of, left}
+use Rattle.std.specs.Prelude.{◌≡◌, ℕ, ◌<◌, length, Some, None, Option}
+use Rattle.engines.specs.declared.work.Work.{Work}
+use Rattle.engines.specs.Depths.{greatest-depth}
+use Rattle.modes.specs.declared.mode.Mode.{Mode}
+use Rattle.modes.specs.declared.way.Way.{Way}
+use Rattle.runs.specs.declared.frame.Frame.{Frame}
+use Rattle.runs.specs.Rings.{items}
+use Rattle.runs.specs.Steps.{View, work-of, entered, unit-of, left}
 
 abbrev pub view : Frame → View
-view f = record { pending = items (f .pending); chain = items (f .chain); register = f .register; taken = f .taken; cycles = f .cycles }
+view f = record { pending = items f.pending; chain = items f.chain; register = f.register; taken = f.taken; cycles = f.cycles }
 
 -- a run's mode, way and first count never change
 abbrev pub Kept : Frame → Frame → Type 0
-Kept f g = (g .mode ≡ f .mode) × (g .way ≡ f .way) × (g .before ≡ f .before)
+Kept f g = (g.mode ≡ f.mode) × (g.way ≡ f.way) × (g.before ≡ f.before)
 
 -- a unit or none taken in, and what goes into the engine; the rings have room
 abbrev pub Admitted : Mode → Way → View → View → Option ℕ → Option Work → Type 0
-Admitted m way v v′ None work = (work ≡ None) × (v′ ≡ v)
-Admitted m way v v′ (Some u) work =
-    length (v .pending) < greatest-depth → length (v .chain) < greatest-depth → (work ≡ Some (work-of m way v u)) × (v′ ≡ entered m way v u)
+Admitted m way v v' None work = (work ≡ None) × (v' ≡ v)
+Admitted m way v v' (Some u) work =
+    length v.pending < greatest-depth → length v.chain < greatest-depth → (work ≡ Some (work-of m way v u)) × (v' ≡ entered m way v u)
 
 -- a result or none come out of the engine, and what is handed out
 abbrev pub Released : Mode → Way → View → View → Option ℕ → Option ℕ → Type 0
-Released m way v v′ None r = (r ≡ None) × (v′ ≡ v)
-Released m way v v′ (Some y) r =
-    0 < length (v .pending) → length (v .chain) < greatest-depth → (r ≡ Some (unit-of m way v y)) × (v′ ≡ left m way v y)
+Released m way v v' None r = (r ≡ None) × (v' ≡ v)
+Released m way v v' (Some y) r =
+    0 < length v.pending → length v.chain < greatest-depth → (r ≡ Some (unit-of m way v y)) × (v' ≡ left m way v y)

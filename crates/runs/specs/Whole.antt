@@ -1,20 +1,15 @@
 -- A whole run on a new cartridge: two feeds, each with a drain, and the closing.
-use mathlib.Core.List.{List, [], _∷_, _++_}
-use Prim.Native.Nat.{ℕ, _+_, _-_}
-use lib.ListN.{length, drop}
-use Rattle·std.specs.declared.option.Option.{Option}
-use Rattle·std.specs.declared.result.Result.{Result}
-use Rattle·std.specs.declared.result.Result.the-variants.{Ok, Err}
-use Rattle·refusals.specs.declared.Refusal.{Refusal}
-use Rattle·engines.specs.Machines.{Machine}
-use Rattle·modes.specs.declared.way.Way.{Way}
-use Rattle·modes.specs.declared.order.Order.{Order}
-use Rattle·modes.specs.Schedule.{drained}
-use Rattle·modes.specs.Table.{row, distanceOf}
-use Rattle·modes.specs.Values.{listed}
-use Rattle·modes.specs.Results.{results}
-use Rattle·calls.specs.Calls.{Answer, gave, refused}
-use Rattle·calls.specs.Due.{refusal-to-feed}
+use Rattle.std.specs.Prelude.{ℕ, ◌+◌, ◌-◌, List, [], ◌∷◌, ◌++◌, length, drop, Ok, Err, Option, Result}
+use Rattle.refusals.specs.declared.Refusal.{Refusal}
+use Rattle.engines.specs.Machines.{Machine}
+use Rattle.modes.specs.declared.way.Way.{Way}
+use Rattle.modes.specs.declared.order.Order.{Order}
+use Rattle.modes.specs.Schedule.{drained}
+use Rattle.modes.specs.Table.{row, distance_of}
+use Rattle.modes.specs.Values.{listed}
+use Rattle.modes.specs.Results.{results}
+use Rattle.calls.specs.Calls.{Answer, gave, refused}
+use Rattle.calls.specs.Due.{refusal-to-feed}
 
 -- what is left of it: its answer, the cartridge's count and the output list
 pub record Ending : Type 0 where
@@ -29,7 +24,7 @@ unless-refused (gave hs) ends on = on
 
 -- which refusal, or none, the units vs meet behind the units us, whose results stand first in the output list xs
 abbrev pub refusal-behind : Order → (us vs xs : List ℕ) → Answer
-refusal-behind order us vs xs = refusal-to-feed 0 (row (order .mode) .width) (length us) vs (length xs - length us) (gave [])
+refusal-behind order us vs xs = refusal-to-feed 0 (row order.mode).width (length us) vs (length xs - length us) (gave [])
 
 -- the cycles of a feed and its drain; with no units there are none
 abbrev pub cycles-for : ℕ → Option ℕ → List ℕ → ℕ
@@ -43,15 +38,15 @@ module _ (mach : Machine) (order : Order) (way : Way) where
       record {
         answer = answer;
         count = length us;
-        output = results (mach .forward) (mach .inverse) (order .mode) way (listed (order .values)) us (length us) ++ drop (length us) xs;
+        output = results mach.forward mach.inverse order.mode way (listed order.values) us (length us) ++ drop (length us) xs;
       }
 
   abbrev pub cycles-in-two : (first second : List ℕ) → ℕ
   cycles-in-two first second =
-      cycles-for (mach .depth) (distanceOf (order .mode) way) first + cycles-for (mach .depth) (distanceOf (order .mode) way) second
+      cycles-for mach.depth (distance_of order.mode way) first + cycles-for mach.depth (distance_of order.mode way) second
 
-  abbrev pub in-two : (first second xs : List ℕ) → Ending
-  in-two first second xs =
+  abbrev pub in_two : (first second xs : List ℕ) → Ending
+  in_two first second xs =
       unless-refused (refusal-behind order [] first xs) (λ e. ending [] xs (Err e))
       (unless-refused (refusal-behind order first second xs) (λ e. ending first xs (Err e))
       (ending (first ++ second) xs (Ok (cycles-in-two first second))))

@@ -1,8 +1,8 @@
 //! Cartridges: an engine, and how many units it took.
 pub mod starts;
 
-ghost use Prim.Native.Nat.{_≤_};
-ghost use Rattle·calls.specs.Limits.{unit-limit};
+ghost use Rattle.std.specs.Prelude.{◌≤◌};
+ghost use Rattle.calls.specs.Limits.{unit-limit};
 
 /// An engine with a count of the units that all its runs took. No call gives the engine out.
 #[derive(Drop)]

@@ -1,10 +1,9 @@
 //! The two ends of a line: a sending run and a receiving one.
-ghost use mathlib.Core.Path.{_≡_};
-ghost use Prim.Native.Nat.{_-_};
-ghost use Rattle·runs·specs.Stands.{told-by};
-ghost use Rattle·runs·specs.Ends.{Between};
-use super::run::DecipheringRun;
-use super::run::EncipheringRun;
+ghost use Rattle.std.specs.Prelude.{◌≡◌, ◌-◌};
+ghost use Rattle.runs.specs.Stands.{told-by};
+ghost use Rattle.runs.specs.Ends.{Between};
+
+use super::run::{DecipheringRun, EncipheringRun};
 use engines::engine::Engine;
 
 /// How many more units the sender handed out than the receiver took; none where it took more.
@@ -12,8 +11,8 @@ pub fn units_on_the_way<S: Engine, R: Engine>(
     sender: &EncipheringRun<S>,
     receiver: &DecipheringRun<R>,
 ) -> usize
-    ensures value { λ r. ⌜ r ≡ told-by (S·Engine .machine (now (sender .entry) .engine)) (now (sender .entry) .frame) .handed-out - told-by (R·Engine .machine (now (receiver .entry) .engine)) (now (receiver .entry) .frame) .taken ⌝ }
-    ensures between { λ _. ⌜ Between (S·Engine .machine (now (sender .entry) .engine)) (R·Engine .machine (now (receiver .entry) .engine)) (now (sender .entry) .frame) (now (receiver .entry) .frame) ⌝ }
+    ensures value { result ≡ (told-by (S.Engine.machine sender.now.engine) sender.now.frame).handed_out - (told-by (R.Engine.machine receiver.now.engine) receiver.now.frame).taken }
+    ensures between { Between (S.Engine.machine sender.now.engine) (R.Engine.machine receiver.now.engine) sender.now.frame receiver.now.frame }
 {
     sender
         .units_handed_out()

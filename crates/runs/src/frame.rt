@@ -1,8 +1,9 @@
 //! What a run remembers besides its engine.
 pub(crate) mod steps;
 
-ghost use Prim.Native.Nat.{_+_, _≤_};
-ghost use Rattle·calls.specs.Limits.{unit-limit};
+ghost use Rattle.std.specs.Prelude.{◌+◌, ◌≤◌};
+ghost use Rattle.calls.specs.Limits.{unit-limit};
+
 use super::ring::Ring;
 use cipher::Block;
 use modes::mode::Mode;

@@ -1,8 +1,9 @@
 //! A short queue of numbers in fixed memory.
 mod ops;
 
-ghost use Prim.Native.Nat.{_<_, _≤_};
-ghost use Rattle·engines.specs.Depths.{greatest-depth};
+ghost use Rattle.std.specs.Prelude.{◌<◌, ◌≤◌};
+ghost use Rattle.engines.specs.Depths.{greatest-depth};
+
 use engines::engine::GREATEST_DEPTH;
 
 /// As many numbers as the deepest engine has cycles, the oldest first. Places are used round and round.

@@ -7,8 +7,7 @@ mod inner;
 mod passing;
 pub mod tells;
 
-use self::heading::Receiving;
-use self::heading::Sending;
+use self::heading::{Receiving, Sending};
 use super::frame::Frame;
 
 /// A run on a cartridge's engine; `W` says whether it enciphers or deciphers. It cannot be let go: it is closed.

@@ -1,18 +1,16 @@
 //! How often an engine is clocked. An engine's meaning cannot tell, so this is run, not proved.
+ghost use Rattle.std.proofs.Common.{rules};
+
 use super::cartridge::Cartridge;
 use super::run::Run;
 use cipher::Block;
 use cipher::dea::Dea;
-use cipher::dea::blocks::DeaCipher;
 use engines::engine::Engine;
 use engines::line::Line;
-use engines::line::LineEngine;
 use engines::plain::Plain;
-use engines::plain::PlainEngine;
 use engines::work::Work;
 use modes::mode::Mode;
 use modes::order::Order;
-use std::test::*;
 
 /// An engine around another that counts its cycles.
 #[derive(Drop)]
@@ -21,10 +19,16 @@ struct Counting<E> {
     clocks: u64,
 }
 
-impl<E: Engine> Engine for Counting<E> as CountingEngine {
+impl<E: Engine> Engine for Counting<E> {
     const DEPTH: usize = E::DEPTH;
 
-    ghost machine = { λ e. E·Engine .machine (e .inner) };
+    ghost machine = { λ e. E.Engine.machine e.inner };
+
+    ghost undo = { Prim.search rules };
+
+    ghost places = { Prim.search rules };
+
+    ghost shallow = { Prim.search rules };
 
     fn depth_of(&self) -> usize {
         self.inner.depth_of()
@@ -90,12 +94,12 @@ fn clocks_and_cycles<E: Engine + Drop>(engine: E, idle: u64) -> (u64, u64) {
 }
 
 #[test]
-fn an_engine_is_clocked_for_the_cycles_told_and_for_each_start() -> Result<(), Fail> {
+fn an_engine_is_clocked_for_the_cycles_told_and_for_each_start(rt: HostRuntime) {
     let (clocks, due) = clocks_and_cycles(Plain::new(Dea::new(0x0123_4567_89AB_CDEF)), 0);
-    check_eq(clocks, due)?;
-    check(clocks > 1000)?;
+    assert_eq!(rt; clocks, due);
+    assert!(rt; clocks > 1000);
     let line = Line::new(Dea::new(1), Dea::new(2), Dea::new(3));
     let (clocks, due) = clocks_and_cycles(line, 2);
-    check_eq(clocks, due)?;
-    check(clocks > 1000)
+    assert_eq!(rt; clocks, due);
+    assert!(rt; clocks > 1000);
 }

@@ -1,14 +1,12 @@
 //! Whole runs: a new cartridge, a start, two feeds with a drain after each, and the closing.
-ghost use mathlib.Core.Path.{_≡_};
-ghost use Prim.Native.Nat.{_+_, _≤_};
-ghost use lib.ListN.{length};
-ghost use Rattle·std.specs.Vec.{made};
-ghost use Rattle·engines.specs.Cycles.{emptied};
-ghost use Rattle·modes.specs.declared.way.Way.the-variants.{Enciphering, Deciphering};
-ghost use Rattle·runs·specs.Standing.{Same-engine};
-ghost use Rattle·runs·specs.Stands.{of-run};
-ghost use Rattle·runs·specs.Whole.{in-two};
-ghost use Rattle·runs·specs.Emptying.{Fed-empty, Fed-twice};
+ghost use Rattle.std.specs.Prelude.{◌≡◌, ◌+◌, ◌≤◌, length, IfOk};
+ghost use Rattle.engines.specs.Cycles.{emptied};
+ghost use Rattle.modes.specs.declared.way.Way.TheVariants.{Enciphering, Deciphering};
+ghost use Rattle.runs.specs.Standing.{Same-engine};
+ghost use Rattle.runs.specs.Stands.{of-run};
+ghost use Rattle.runs.specs.Whole.{in_two};
+ghost use Rattle.runs.specs.Emptying.{Fed-empty, Fed-twice};
+
 use super::cartridge::Cartridge;
 use super::run::Run;
 use engines::engine::Engine;
@@ -21,9 +19,9 @@ fn feed_and_drain<E: Engine, W>(
     units: &[u64],
     out: &mut [u64],
 ) -> Result<usize, Refusal>
-    ensures emptied { λ r. ⌜ of-run Fed-empty (E·Engine .machine) (now (run .entry)) (now (run .exit)) (now (units .entry)) (now (out .entry)) (now (out .exit)) r ⌝ }
-    ensures within { λ r. ⌜ made r (λ n. n ≤ length (now (out .entry))) ⌝ }
-    ensures same { λ _. ⌜ Same-engine (E·Engine .machine (now (run .entry) .engine)) (E·Engine .machine (now (run .exit) .engine)) ⌝ }
+    ensures emptied { of-run Fed-empty E.Engine.machine run.old run.new units.now out.old out.new result }
+    ensures within { IfOk result (λ n. n ≤ length out.old) }
+    ensures same { Same-engine (E.Engine.machine run.old.engine) (E.Engine.machine run.new.engine) }
 {
     let given = run.feed(units, out)?;
     let drained = run.drain(&mut out[given..])?;
@@ -37,7 +35,7 @@ fn feed_twice<E: Engine, W>(
     second: &[u64],
     out: &mut [u64],
 ) -> Result<u64, Refusal>
-    ensures { λ r. ⌜ Fed-twice (E·Engine .machine (now (run .entry) .engine)) (E·Engine .machine (now (run .exit) .engine)) (now (run .entry) .frame) (now (run .exit) .frame .before + now (run .exit) .frame .taken) (now (first .entry)) (now (second .entry)) (now (out .entry)) (now (out .exit)) r ⌝ }
+    ensures { Fed-twice (E.Engine.machine run.old.engine) (E.Engine.machine run.new.engine) run.old.frame (run.new.frame.before + run.new.frame.taken) first.now second.now out.old out.new result }
 {
     let given = feed_and_drain(run, first, out)?;
     feed_and_drain(run, second, &mut out[given..])?;
@@ -51,7 +49,7 @@ fn finish<E: Engine, W: Drop>(
     second: &[u64],
     out: &mut [u64],
 ) -> (Cartridge<E>, Result<u64, Refusal>)
-    ensures { λ r. ⌜ Fed-twice (E·Engine .machine (run .engine)) (E·Engine .machine (r .0 .engine)) (run .frame) (r .0 .count) (now (first .entry)) (now (second .entry)) (now (out .entry)) (now (out .exit)) (r .1) ⌝ }
+    ensures { Fed-twice (E.Engine.machine run.engine) (E.Engine.machine result.0.engine) run.frame result.0.count first.now second.now out.old out.new result.1 }
 {
     let answer = feed_twice(&mut run, first, second, out);
     (run.close(), answer)
@@ -67,10 +65,10 @@ pub fn encipher_in_two<E: Engine>(
     second: &[u64],
     out: &mut [u64],
 ) -> (Cartridge<E>, Result<u64, Refusal>)
-    ensures answer { λ r. ⌜ r .1 ≡ in-two (E·Engine .machine engine) order Enciphering (now (first .entry)) (now (second .entry)) (now (out .entry)) .answer ⌝ }
-    ensures count { λ r. ⌜ r .0 .count ≡ in-two (E·Engine .machine engine) order Enciphering (now (first .entry)) (now (second .entry)) (now (out .entry)) .count ⌝ }
-    ensures output { λ _. ⌜ now (out .exit) ≡ in-two (E·Engine .machine engine) order Enciphering (now (first .entry)) (now (second .entry)) (now (out .entry)) .output ⌝ }
-    ensures engine { λ r. ⌜ E·Engine .machine (r .0 .engine) ≡ emptied (E·Engine .machine engine) ⌝ }
+    ensures answer { result.1 ≡ (in_two (E.Engine.machine engine) order Enciphering first.now second.now out.old).answer }
+    ensures count { result.0.count ≡ (in_two (E.Engine.machine engine) order Enciphering first.now second.now out.old).count }
+    ensures output { out.new ≡ (in_two (E.Engine.machine engine) order Enciphering first.now second.now out.old).output }
+    ensures engine { E.Engine.machine result.0.engine ≡ emptied (E.Engine.machine engine) }
 {
     let sender = Cartridge::new(engine).start_enciphering(order);
     finish(sender, first, second, out)
@@ -84,10 +82,10 @@ pub fn decipher_in_two<E: Engine>(
     second: &[u64],
     out: &mut [u64],
 ) -> (Cartridge<E>, Result<u64, Refusal>)
-    ensures answer { λ r. ⌜ r .1 ≡ in-two (E·Engine .machine engine) order Deciphering (now (first .entry)) (now (second .entry)) (now (out .entry)) .answer ⌝ }
-    ensures count { λ r. ⌜ r .0 .count ≡ in-two (E·Engine .machine engine) order Deciphering (now (first .entry)) (now (second .entry)) (now (out .entry)) .count ⌝ }
-    ensures output { λ _. ⌜ now (out .exit) ≡ in-two (E·Engine .machine engine) order Deciphering (now (first .entry)) (now (second .entry)) (now (out .entry)) .output ⌝ }
-    ensures engine { λ r. ⌜ E·Engine .machine (r .0 .engine) ≡ emptied (E·Engine .machine engine) ⌝ }
+    ensures answer { result.1 ≡ (in_two (E.Engine.machine engine) order Deciphering first.now second.now out.old).answer }
+    ensures count { result.0.count ≡ (in_two (E.Engine.machine engine) order Deciphering first.now second.now out.old).count }
+    ensures output { out.new ≡ (in_two (E.Engine.machine engine) order Deciphering first.now second.now out.old).output }
+    ensures engine { E.Engine.machine result.0.engine ≡ emptied (E.Engine.machine engine) }
 {
     let receiver = Cartridge::new(engine).start_deciphering(order);
     finish(receiver, first, second, out)

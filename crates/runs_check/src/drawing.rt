@@ -1,5 +1,6 @@
 //! What is drawn for the calls.
-ghost use Prim.Native.Nat.{_<_};
+ghost use Rattle.std.specs.Prelude.{◌<◌};
+
 use engines_tests::numbers::Numbers;
 use modes::mode::Mode;
 use modes::order::Order;
@@ -13,7 +14,7 @@ pub const UNITS: usize = 8;
 
 /// A number below `n`, or 0 where `n` is 0.
 pub fn pick(numbers: &mut Numbers, n: u64) -> u64
-    ensures { λ r. ⌜ (0 < n → r < n) ⌝ }
+    ensures { 0 < n → result < n }
 {
     let drawn = numbers.draw() >> 33;
     if n == 0 { 0 } else { drawn % n }
@@ -68,7 +69,7 @@ pub fn draw_units(numbers: &mut Numbers, mode: Mode, count: usize) -> [u64; UNIT
 
 /// How long an output list is: mostly long enough.
 pub fn draw_room(numbers: &mut Numbers, seldom: u64) -> usize
-    ensures { λ r. ⌜ r < 17 ⌝ }
+    ensures { result < 17 }
 {
     if pick(numbers, 4) == 0 {
         let room = pick(numbers, seldom) as usize;

@@ -1,11 +1,6 @@
 //! Lists of calls, as they are drawn.
 use crate::digest::Digest;
-use crate::drawing::draw_order;
-use crate::drawing::draw_room;
-use crate::drawing::draw_units;
-use crate::drawing::draw_way;
-use crate::drawing::fresh_output;
-use crate::drawing::pick;
+use crate::drawing::{draw_order, draw_room, draw_units, draw_way, fresh_output, pick};
 use engines::engine::Engine;
 use engines_tests::numbers::Numbers;
 use modes::mode::Mode;

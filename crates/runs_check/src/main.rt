@@ -5,20 +5,16 @@ mod drawing;
 mod driving;
 
 use cipher::dea::Dea;
-use cipher::dea::blocks::DeaCipher;
-use driving::Tally;
-use driving::drive;
+use driving::{Tally, drive};
 use engines::line::Line;
-use engines::line::LineEngine;
 use engines::plain::Plain;
-use engines::plain::PlainEngine;
 use engines_tests::numbers::Numbers;
 use std::io;
 
 /// How many cartridges there are, each with its list of calls.
 const LISTS: u32 = 400;
 
-fn main(rt: LibcRuntime) -> io::Result<()> {
+fn main(rt: HostRuntime) -> io::Result<()> {
     let mut numbers = Numbers::new(2026);
     for list in 0..LISTS {
         let tally = if list % 2 == 0 {
@@ -34,14 +30,13 @@ fn main(rt: LibcRuntime) -> io::Result<()> {
     Ok(())
 }
 
-fn print_tally(rt: &LibcRuntime, list: u32, tally: Tally) -> io::Result<()> {
+fn print_tally(rt: &HostRuntime, list: u32, tally: Tally) -> io::Result<()> {
     let calls = tally.calls;
     let refused = tally.refused;
     let count = tally.count;
     let cycles = tally.cycles;
     let digest = tally.digest.value();
-    println!(
-        rt,
+    println!(rt;
         "list {list}: calls {calls}, refused {refused}, units {count}, cycles {cycles}, digest {digest:016X}"
     )
 }

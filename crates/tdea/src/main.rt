@@ -1,14 +1,13 @@
 //! Runs the job on standard input, and prints what became of it.
 use job_text::answering::answer;
-use std::error::AnyError;
 use std::io::Read;
 
-fn main(rt: LibcRuntime) -> Result<(), AnyError> {
-    rt.report(run(&rt))
+fn main(rt: HostRuntime) -> anyhow::Result<()> {
+    run(&rt)
 }
 
 /// The job is the first 65,536 bytes at most; what follows them is not read.
-fn run(rt: &LibcRuntime) -> Result<(), AnyError> {
+fn run(rt: &HostRuntime) -> anyhow::Result<()> {
     let heap = rt.alloc();
     let mut job = Vec::new(heap);
     rt.stdin().take(65_536).read_to_end(&mut job)?;

@@ -1,40 +1,35 @@
 -- What is gathered of the numbers from i on: through an engine that is clocked with them, and by three calls.
-use mathlib.Core.List.{List}
-use Prim.Native.Nat.{ℕ, zero, suc, _+_}
-use lib.Bits.{bitXor}
-use Rattle·std.specs.Options.{valueOr}
-use Rattle·std.specs.declared.option.Option.the-variants.{Some}
-use Rattle·std.specs.declared.result.Result.{Result}
-use Rattle·std.specs.declared.result.Result.the-variants.{Ok, Err}
-use Rattle·refusals.specs.declared.Refusal.{Refusal}
-use Rattle·cipher.specs.declared.dea.Dea.{Dea}
-use Rattle·cipher.specs.Dea.{triple-dea, triple-dea-inverse}
-use Rattle·cipher.specs.Functions.{forward-of, inverse-of}
-use Rattle·cipher.specs.Triples.{in-row}
-use Rattle·engines.specs.declared.work.Direction.the-variants.{Forward}
-use Rattle·engines.specs.Machines.{Machine, answered, turned, resting}
-use Rattle·keys.specs.Loading.{bundle-loaded}
+use Rattle.std.specs.Prelude.{ℕ, zero, suc, ◌+◌, List, Some, Ok, Err, Result, bit_xor}
+use Rattle.std.specs.Option.{unwrap_or}
+use Rattle.refusals.specs.declared.Refusal.{Refusal}
+use Rattle.cipher.specs.declared.dea.Dea.{Dea}
+use Rattle.cipher.specs.Dea.{triple-dea, triple-dea-inverse}
+use Rattle.cipher.specs.Functions.{forward-of, inverse-of}
+use Rattle.cipher.specs.Triples.{in_row}
+use Rattle.engines.specs.declared.work.Direction.TheVariants.{Forward}
+use Rattle.engines.specs.Machines.{Machine, answered, turned, resting}
+use Rattle.keys.specs.Loading.{bundle-loaded}
 
 -- n cycles more
 abbrev pub gathered : ℕ → ℕ → Machine → ℕ → ℕ
 gathered zero i m all = all
 gathered (suc n) i m all =
-    gathered n (i + 1) (turned m (Some (record { block = i; direction = Forward }))) (bitXor all (valueOr (answered m (Some (record { block = i; direction = Forward }))) 0))
+    gathered n (i + 1) (turned m (Some (record { block = i; direction = Forward }))) (bit_xor all (unwrap_or (answered m (Some (record { block = i; direction = Forward }))) 0))
 
 -- n numbers more
 abbrev pub summed : ℕ → ℕ → (ℕ → ℕ) → ℕ → ℕ
 summed zero i F all = all
-summed (suc n) i F all = summed n (i + 1) F (bitXor all (F i))
+summed (suc n) i F all = summed n (i + 1) F (bit_xor all (F i))
 
 abbrev pub called : ℕ → ℕ → Dea → Dea → Dea → ℕ → ℕ
-called n i a b c all = summed n i (in-row (forward-of a) (inverse-of b) (forward-of c)) all
+called n i a b c all = summed n i (in_row (forward-of a) (inverse-of b) (forward-of c)) all
 
 abbrev pub by-line : Result (ℕ × ℕ × ℕ) Refusal → ℕ → ℕ
-by-line (Ok ws) n = gathered n 0 (resting (triple-dea (ws .0) (ws .1) (ws .2)) (triple-dea-inverse (ws .0) (ws .1) (ws .2)) 3) 0
+by-line (Ok ws) n = gathered n 0 (resting (triple-dea ws.0 ws.1 ws.2) (triple-dea-inverse ws.0 ws.1 ws.2) 3) 0
 by-line (Err e) n = 0
 
 abbrev pub by-calls : Result (ℕ × ℕ × ℕ) Refusal → ℕ → ℕ
-by-calls (Ok ws) n = summed n 0 (triple-dea (ws .0) (ws .1) (ws .2)) 0
+by-calls (Ok ws) n = summed n 0 (triple-dea ws.0 ws.1 ws.2) 0
 by-calls (Err e) n = 0
 
 abbrev pub line-gathered : List ℕ → ℕ → ℕ

@@ -1,21 +1,17 @@
 //! What the measurements compare: a line that is clocked, and three calls of single DEA in its place.
-ghost use mathlib.Core.Path.{_≡_};
-ghost use lib.ListN.{length, replicate};
-ghost use Rattle·test_exports·specs.Speeds.{gathered, called, line-gathered, calls-gathered};
-use cipher::Block;
-use cipher::Cipher;
+ghost use Rattle.std.specs.Prelude.{◌≡◌, length, replicate};
+ghost use Rattle.test_exports.specs.Speeds.{gathered, called, line-gathered, calls-gathered};
+
 use cipher::dea::Dea;
-use cipher::dea::blocks::DeaCipher;
+use cipher::{Block, Cipher};
 use engines::engine::Engine;
 use engines::line::Line;
-use engines::line::LineEngine;
-use engines::work::Direction;
-use engines::work::Work;
+use engines::work::{Direction, Work};
 use keys::KeyBundle;
 
 /// Clocks an engine with the numbers from 0 on, and gathers what comes out.
 fn gather<E: Engine>(engine: &mut E, cycles: u64) -> Block
-    ensures { λ r. ⌜ r ≡ gathered cycles 0 (E·Engine .machine (now (engine .entry))) 0 ⌝ }
+    ensures { result ≡ gathered cycles 0 (E.Engine.machine engine.old) 0 }
 {
     let mut all = 0;
     for number in 0..cycles {
@@ -30,7 +26,7 @@ fn gather<E: Engine>(engine: &mut E, cycles: u64) -> Block
 
 /// The same numbers through three ciphers, one after the other.
 fn call(first: &Dea, second: &Dea, third: &Dea, times: u64) -> Block
-    ensures { λ r. ⌜ r ≡ called times 0 (now (first .entry)) (now (second .entry)) (now (third .entry)) 0 ⌝ }
+    ensures { result ≡ called times 0 first.now second.now third.now 0 }
 {
     let mut all = 0;
     for number in 0..times {
@@ -42,8 +38,8 @@ fn call(first: &Dea, second: &Dea, third: &Dea, times: u64) -> Block
 /// Clocks a line under the bundle so often, and answers what came out, gathered by exclusive or; 0 where the bundle is refused.
 #[unsafe(no_mangle)]
 pub extern "C" fn hervodig_line(keys: &mut [u8], cycles: u64) -> Block
-    ensures value { λ r. ⌜ r ≡ line-gathered (now (keys .entry)) cycles ⌝ }
-    ensures zeroed { λ _. ⌜ now (keys .exit) ≡ replicate (length (now (keys .entry))) 0 ⌝ }
+    ensures value { result ≡ line-gathered keys.old cycles }
+    ensures zeroed { keys.new ≡ replicate (length keys.old) 0 }
 {
     match KeyBundle::load(keys) {
         Ok(bundle) => {
@@ -58,8 +54,8 @@ pub extern "C" fn hervodig_line(keys: &mut [u8], cycles: u64) -> Block
 /// Calls three ciphers under the bundle so often, and answers the results likewise.
 #[unsafe(no_mangle)]
 pub extern "C" fn hervodig_three_calls(keys: &mut [u8], times: u64) -> Block
-    ensures value { λ r. ⌜ r ≡ calls-gathered (now (keys .entry)) times ⌝ }
-    ensures zeroed { λ _. ⌜ now (keys .exit) ≡ replicate (length (now (keys .entry))) 0 ⌝ }
+    ensures value { result ≡ calls-gathered keys.old times }
+    ensures zeroed { keys.new ≡ replicate (length keys.old) 0 }
 {
     match KeyBundle::load(keys) {
         Ok(bundle) => {

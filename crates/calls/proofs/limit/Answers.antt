@@ -1,6 +1,6 @@
-use borrow.Author.Needs.{needs}
-use Rattle·calls·proofs.Whole.{theorem}
-use Rattle·calls·proofs.limit.Needs as need
+use Rattle.std.proofs.Common.{rules}
+use Rattle.calls.proofs.Whole.{theorem}
+use Rattle.calls.proofs.limit.Goals as goal
 
-pub returns : need.returns
-returns c = record { value = search needs; theorem = theorem }
+pub returns : goal.returns
+returns c = record { value = search rules; theorem = theorem }

@@ -1,22 +1,22 @@
 //! Building single DEA, and a block under it.
-ghost use mathlib.Core.Path.{_≡_};
-ghost use Rattle·cipher·specs.Dea.{dea as deaOf, dea-inverse};
-ghost use Rattle·cipher·specs.Functions.{forward-of, inverse-of};
-ghost use Rattle·cipher·specs.KeySchedule.{round-keys};
+ghost use Rattle.std.specs.Prelude.{◌≡◌};
+ghost use Rattle.cipher.specs.Dea.{dea as deaOf, dea-inverse};
+ghost use Rattle.cipher.specs.Functions.{forward-of, inverse-of};
+ghost use Rattle.cipher.specs.KeySchedule.{round-keys};
+ghost use Rattle.cipher.specs.Feistel.{under-undo};
+
 use super::Dea;
-use super::permutations::enter;
-use super::permutations::leave;
+use super::permutations::{enter, leave};
 use super::schedule::schedule;
 use super::substitution::combine;
-use crate::Block;
-use crate::Cipher;
+use crate::{Block, Cipher};
 
 impl Dea {
     /// Single DEA under a key of 64 bits; the lowest bit of each byte has no effect.
     pub fn new(key: u64) -> Dea
-        ensures keys { λ r. ⌜ r .«round_keys» ≡ round-keys key ⌝ }
-        ensures forward { λ r. ⌜ forward-of r ≡ deaOf key ⌝ }
-        ensures inverse { λ r. ⌜ inverse-of r ≡ dea-inverse key ⌝ }
+        ensures keys { result.round_keys ≡ round-keys key }
+        ensures forward { forward-of result ≡ deaOf key }
+        ensures inverse { inverse-of result ≡ dea-inverse key }
     {
         Dea {
             round_keys: schedule(key),
@@ -25,10 +25,12 @@ impl Dea {
     }
 }
 
-pub impl Cipher for Dea as DeaCipher {
+impl Cipher for Dea {
     ghost forward = { forward-of };
 
     ghost inverse = { inverse-of };
+
+    ghost undo = { λ d. under-undo d.round_keys };
 
     fn forward(&self, block: Block) -> Block {
         let mut halves = enter(block);

@@ -1,10 +1,11 @@
 //! The initial permutation and its inverse, five exchanges each, and the halves between them.
-ghost use mathlib.Core.Path.{_≡_};
-ghost use Rattle·cipher·specs.Rounds.{ip, ip-inverse, halves as halvesOf, crossed};
+ghost use Rattle.std.specs.Prelude.{◌≡◌};
+ghost use Rattle.cipher.specs.Rounds.{ip, ip-inverse, halves as halvesOf, crossed};
+
 use super::words::exchange;
 
 fn permute(block: u64) -> u64
-    ensures { λ r. ⌜ r ≡ ip block ⌝ }
+    ensures { result ≡ ip block }
 {
     let x = exchange(block, 36, 0x0f0f_0f0f);
     let x = exchange(x, 48, 0xffff);
@@ -14,7 +15,7 @@ fn permute(block: u64) -> u64
 }
 
 fn permute_back(block: u64) -> u64
-    ensures { λ r. ⌜ r ≡ ip-inverse block ⌝ }
+    ensures { result ≡ ip-inverse block }
 {
     let x = exchange(block, 33, 0x5555_5555);
     let x = exchange(x, 24, 0xff00_ff00);
@@ -25,7 +26,7 @@ fn permute_back(block: u64) -> u64
 
 /// The halves (L, R) that the first round takes.
 pub(super) fn enter(block: u64) -> (u32, u32)
-    ensures { λ r. ⌜ r ≡ halvesOf (ip block) ⌝ }
+    ensures { result ≡ halvesOf (ip block) }
 {
     let x = permute(block);
     ((x >> 32) as u32, (x & 0xffff_ffff) as u32)
@@ -33,7 +34,7 @@ pub(super) fn enter(block: u64) -> (u32, u32)
 
 /// The block of the halves (L, R) that the last round answers: R goes before L.
 pub(super) fn leave(halves: (u32, u32)) -> u64
-    ensures { λ r. ⌜ r ≡ ip-inverse (crossed halves) ⌝ }
+    ensures { result ≡ ip-inverse (crossed halves) }
 {
     permute_back((halves.1 as u64) << 32 | halves.0 as u64)
 }

@@ -1,12 +1,13 @@
 //! A round: from one pair of halves to the next.
-ghost use mathlib.Core.Path.{_≡_};
-ghost use Rattle·cipher·specs.Rounds.{f, round as rounded};
-ghost use Rattle·cipher·specs.Combined.{window as windowOf};
+ghost use Rattle.std.specs.Prelude.{◌≡◌};
+ghost use Rattle.cipher.specs.Rounds.{f, round as rounded};
+ghost use Rattle.cipher.specs.Combined.{window as windowOf};
+
 use super::Dea;
 
 /// The 32 bits with the last in front and the first behind: what E gives a box is six neighbours of these 34.
 fn window(right: u32) -> u64
-    ensures { λ r. ⌜ r ≡ windowOf right ⌝ }
+    ensures { result ≡ windowOf right }
 {
     let x = right as u64;
     ((x & 1) << 33) ^ (x << 1) ^ (x >> 31)
@@ -15,7 +16,7 @@ fn window(right: u32) -> u64
 impl Dea {
     /// f(R, K).
     fn mix(&self, right: u32, key: u64) -> u32
-        ensures { λ r. ⌜ r ≡ f right key ⌝ }
+        ensures { result ≡ f right key }
     {
         let bits = window(right);
         let mut mixed: u32 = 0;
@@ -28,7 +29,7 @@ impl Dea {
 
     /// One round takes the halves (L, R) and answers the next.
     pub(super) fn round(&self, key: u64, halves: (u32, u32)) -> (u32, u32)
-        ensures { λ r. ⌜ r ≡ rounded key halves ⌝ }
+        ensures { result ≡ rounded key halves }
     {
         (halves.1, halves.0 ^ self.mix(halves.1, key))
     }

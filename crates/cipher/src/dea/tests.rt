@@ -1,7 +1,6 @@
 //! The rounds of a published worked example.
 use super::Dea;
 use super::permutations::enter;
-use std::test::*;
 
 /// Each round's key, and the halves (L, R) after it.
 const ROUNDS: [(u64, u32, u32); 16] = [
@@ -24,15 +23,14 @@ const ROUNDS: [(u64, u32, u32); 16] = [
 ];
 
 #[test]
-fn rounds_of_the_worked_example() -> Result<(), Fail> {
+fn rounds_of_the_worked_example(rt: HostRuntime) {
     let dea = Dea::new(0x133457799BBCDFF1);
     let mut halves = enter(0x0123456789ABCDEF);
-    check_eq(halves, (0xCC00CCFF, 0xF0AAF0AA))?;
+    assert_eq!(rt; halves, (0xCC00CCFF, 0xF0AAF0AA));
     for i in 0..16 {
         let (key, left, right) = ROUNDS[i];
-        check_eq(dea.round_keys[i], key)?;
+        assert_eq!(rt; dea.round_keys[i], key);
         halves = dea.round(key, halves);
-        check_eq(halves, (left, right))?;
+        assert_eq!(rt; halves, (left, right));
     }
-    Ok(())
 }

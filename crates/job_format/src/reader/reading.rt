@@ -1,17 +1,15 @@
 //! Reading fields one after the other.
-ghost use mathlib.Core.Path.{_≡_};
-ghost use mathlib.Core.Bool.{true};
-ghost use Rattle·std.specs.Results.{isErr};
-ghost use Rattle·job_format·specs.Reading.{field-at, found, end-at};
+ghost use Rattle.std.specs.Prelude.{◌≡◌, true, is_err};
+ghost use Rattle.job_format.specs.Reading.{field_at, found, end-at};
+
 use super::super::tag::Tag;
-use super::Field;
-use super::Reader;
+use super::{Field, Reader};
 use refusals::Refusal;
 
 impl<'a> Reader<'a> {
     /// A reader at the first field of a job.
     pub fn new(job: &'a [u8]) -> Reader<'a>
-        ensures { λ r. ⌜ (now (r .job) ≡ now (job .entry)) × (r .at ≡ 0) ⌝ }
+        ensures { (result.job.now ≡ job.now) × (result.at ≡ 0) }
     {
         Reader { job, at: 0 }
     }
@@ -19,9 +17,9 @@ impl<'a> Reader<'a> {
     /// The next field, which must have this tag; the reader then stands behind it. Refused, and then the reader stays: fewer
     /// bytes left than a tag and a length take, another tag, fewer bytes than the length says.
     pub fn field(&mut self, due: Tag) -> Result<Field<'a>, Refusal>
-        ensures value { λ r. ⌜ found r (now (self .exit) .at) ≡ field-at due (now (now (self .entry) .job)) (now (self .entry) .at) ⌝ }
-        ensures same { λ _. ⌜ now (now (self .exit) .job) ≡ now (now (self .entry) .job) ⌝ }
-        ensures still { λ r. ⌜ (isErr r ≡ true → now (self .exit) .at ≡ now (self .entry) .at) ⌝ }
+        ensures value { found result self.new.at ≡ field_at due self.old.job.now self.old.at }
+        ensures same { self.new.job.now ≡ self.old.job.now }
+        ensures still { is_err result ≡ true → self.new.at ≡ self.old.at }
     {
         let job = self.job;
         let start = self.at;
@@ -45,7 +43,7 @@ impl<'a> Reader<'a> {
 
     /// That nothing is left. Refused: bytes behind the last field.
     pub fn end(self) -> Result<(), Refusal>
-        ensures { λ r. ⌜ r ≡ end-at (now (self .entry .job)) (self .entry .at) ⌝ }
+        ensures { result ≡ end-at self.entry.job.now self.entry.at }
     {
         if self.at < self.job.len() {
             return Err(Refusal::TrailingBytes(self.at));

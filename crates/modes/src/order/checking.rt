@@ -1,7 +1,8 @@
 //! Checking an opening, and what an order tells.
-ghost use mathlib.Core.Path.{_≡_};
-ghost use Rattle·modes·specs.Values.{listed, Begins};
-ghost use Rattle·modes·specs.Orders.{answered, checked, Orders-are-answers, Same-opening-same-order};
+ghost use Rattle.std.specs.Prelude.{◌≡◌};
+ghost use Rattle.modes.specs.Values.{listed, Begins};
+ghost use Rattle.modes.specs.Orders.{answered, checked, Orders-are-answers, Same-opening-same-order};
+
 use super::super::mode::Mode;
 use super::super::values::InitialValues;
 use super::Order;
@@ -11,7 +12,7 @@ impl Order {
     /// The order for a code and the bytes of the initial values. Refused: a code that names no mode, then a length of the bytes
     /// other than the mode's.
     pub fn check(code: u8, initial_values: &[u8]) -> Result<Order, Refusal>
-        ensures { λ r. ⌜ answered r ≡ checked code (now («initial_values» .entry)) ⌝ }
+        ensures { answered result ≡ checked code initial_values.now }
     {
         let Some(mode) = Mode::from_code(code) else {
             return Err(Refusal::UnknownCode(code));
@@ -24,17 +25,17 @@ impl Order {
 
     /// The mode.
     pub fn mode(self) -> Mode
-        ensures value { λ r. ⌜ r ≡ self .mode ⌝ }
-        ensures law { λ _. ⌜ Orders-are-answers ⌝ }
+        ensures value { result ≡ self.mode }
+        ensures law { Orders-are-answers }
     {
         self.mode
     }
 
     /// The initial values, as many as the mode asks for.
     pub fn initial_values(self) -> InitialValues
-        ensures value { λ r. ⌜ r ≡ self .values ⌝ }
-        ensures suited { λ r. ⌜ Begins (self .mode) (listed r) ⌝ }
-        ensures law { λ _. ⌜ Same-opening-same-order ⌝ }
+        ensures value { result ≡ self.values }
+        ensures suited { Begins self.mode (listed result) }
+        ensures law { Same-opening-same-order }
     {
         self.values
     }

@@ -1,23 +1,17 @@
 //! Making a cartridge, and taking it into a run.
-ghost use mathlib.Core.Path.{_≡_};
-ghost use Prim.Native.Nat.{_≤_};
-ghost use Rattle·modes.specs.Values.{listed};
-ghost use Rattle·engines.specs.Cycles.{emptied};
-ghost use Rattle·modes.specs.declared.way.Way.the-variants.{Enciphering, Deciphering};
-ghost use Rattle·calls.specs.Limits.{unit-limit};
-ghost use Rattle·calls.specs.Calls.{new as first};
-ghost use Rattle·runs·specs.Rings.{items};
-ghost use Rattle·runs·specs.Stands.{Rests, Started, Fresh};
+ghost use Rattle.std.specs.Prelude.{◌≡◌, ◌≤◌};
+ghost use Rattle.modes.specs.Values.{listed};
+ghost use Rattle.engines.specs.Cycles.{emptied};
+ghost use Rattle.modes.specs.declared.way.Way.TheVariants.{Enciphering, Deciphering};
+ghost use Rattle.calls.specs.Limits.{unit-limit};
+ghost use Rattle.calls.specs.Calls.{new as first};
+ghost use Rattle.runs.specs.Rings.{items};
+ghost use Rattle.runs.specs.Stands.{Rests, Started, Fresh};
+
 use super::super::frame::Frame;
 use super::super::ring::Ring;
-use super::super::run::DecipheringRun;
-use super::super::run::EncipheringRun;
-use super::super::run::Run;
-use super::super::run::heading::Heading;
-use super::super::run::heading::Receiving;
-use super::super::run::heading::ReceivingHeading;
-use super::super::run::heading::Sending;
-use super::super::run::heading::SendingHeading;
+use super::super::run::heading::{Heading, Receiving, Sending};
+use super::super::run::{DecipheringRun, EncipheringRun, Run};
 use super::Cartridge;
 use engines::clocking::clear;
 use engines::engine::Engine;
@@ -26,7 +20,7 @@ use modes::values::InitialValues;
 
 // The chain with which a run begins.
 fn first_links(values: InitialValues) -> Ring
-    ensures { λ r. ⌜ items r ≡ listed values ⌝ }
+    ensures { items result ≡ listed values }
 {
     let mut chain = Ring::new();
     match values {
@@ -44,26 +38,26 @@ fn first_links(values: InitialValues) -> Ring
 impl<E: Engine> Cartridge<E> {
     /// A cartridge that took no unit yet.
     pub fn new(engine: E) -> Cartridge<E>
-        ensures rests { λ r. ⌜ Rests (E·Engine .machine (r .engine)) (r .count) first ⌝ }
-        ensures engine { λ r. ⌜ r .engine ≡ engine ⌝ }
-        ensures count { λ r. ⌜ r .count ≡ 0 ⌝ }
+        ensures rests { Rests (E.Engine.machine result.engine) result.count first }
+        ensures engine { result.engine ≡ engine }
+        ensures count { result.count ≡ 0 }
     {
         Cartridge { engine, count: 0 }
     }
 
     /// How many units its runs took.
     pub fn count(&self) -> usize
-        ensures value { λ r. ⌜ r ≡ now (self .entry) .count ⌝ }
-        ensures within { λ r. ⌜ r ≤ unit-limit ⌝ }
+        ensures value { result ≡ self.now.count }
+        ensures within { result ≤ unit-limit }
     {
         self.count
     }
 
     // Clocks the engine empty, throws away what comes out, and counts none of these cycles.
     fn start<W: Heading>(self, order: Order, heading: W) -> Run<E, W>
-        ensures started { λ r. ⌜ Started (E·Engine .machine (self .engine)) (E·Engine .machine (r .engine)) (self .count) order (W·Heading .heads) (r .frame) ⌝ }
-        ensures fresh { λ r. ⌜ Fresh (r .frame) order (W·Heading .heads) (self .count) ⌝ }
-        ensures engine { λ r. ⌜ E·Engine .machine (r .engine) ≡ emptied (E·Engine .machine (self .engine)) ⌝ }
+        ensures started { Started (E.Engine.machine self.engine) (E.Engine.machine result.engine) self.count order W.Heading.heads result.frame }
+        ensures fresh { Fresh result.frame order W.Heading.heads self.count }
+        ensures engine { E.Engine.machine result.engine ≡ emptied (E.Engine.machine self.engine) }
     {
         let Cartridge { mut engine, count } = self;
         clear(&mut engine);
@@ -85,18 +79,18 @@ impl<E: Engine> Cartridge<E> {
 
     /// Takes the cartridge into a run that enciphers.
     pub fn start_enciphering(self, order: Order) -> EncipheringRun<E>
-        ensures started { λ r. ⌜ Started (E·Engine .machine (self .engine)) (E·Engine .machine (r .engine)) (self .count) order Enciphering (r .frame) ⌝ }
-        ensures fresh { λ r. ⌜ Fresh (r .frame) order Enciphering (self .count) ⌝ }
-        ensures engine { λ r. ⌜ E·Engine .machine (r .engine) ≡ emptied (E·Engine .machine (self .engine)) ⌝ }
+        ensures started { Started (E.Engine.machine self.engine) (E.Engine.machine result.engine) self.count order Enciphering result.frame }
+        ensures fresh { Fresh result.frame order Enciphering self.count }
+        ensures engine { E.Engine.machine result.engine ≡ emptied (E.Engine.machine self.engine) }
     {
         self.start(order, Sending {})
     }
 
     /// Takes the cartridge into a run that deciphers.
     pub fn start_deciphering(self, order: Order) -> DecipheringRun<E>
-        ensures started { λ r. ⌜ Started (E·Engine .machine (self .engine)) (E·Engine .machine (r .engine)) (self .count) order Deciphering (r .frame) ⌝ }
-        ensures fresh { λ r. ⌜ Fresh (r .frame) order Deciphering (self .count) ⌝ }
-        ensures engine { λ r. ⌜ E·Engine .machine (r .engine) ≡ emptied (E·Engine .machine (self .engine)) ⌝ }
+        ensures started { Started (E.Engine.machine self.engine) (E.Engine.machine result.engine) self.count order Deciphering result.frame }
+        ensures fresh { Fresh result.frame order Deciphering self.count }
+        ensures engine { E.Engine.machine result.engine ≡ emptied (E.Engine.machine self.engine) }
     {
         self.start(order, Receiving {})
     }

@@ -1,22 +1,19 @@
 //! One unit's way into the engine and out of it.
-ghost use mathlib.Core.Path.{_≡_};
-ghost use Prim.Native.Nat.{_+_, _<_, _≤_};
-ghost use lib.ListN.{length};
-ghost use Rattle·std.specs.declared.option.Option.the-variants.{Some};
-ghost use Rattle·calls.specs.Limits.{unit-limit};
-ghost use Rattle·runs·specs.Rings.{items, one-if};
-ghost use Rattle·runs·specs.Steps.{input-by, mask-by, direction-by, register-by, fed-back-by, link-of, shift-from, counted};
-ghost use Rattle·runs·specs.Views.{view, Kept, Admitted, Released};
+ghost use Rattle.std.specs.Prelude.{◌≡◌, ◌+◌, ◌<◌, ◌≤◌, length, Some};
+ghost use Rattle.calls.specs.Limits.{unit-limit};
+ghost use Rattle.runs.specs.Rings.{items, one-if};
+ghost use Rattle.runs.specs.Steps.{input-by, mask-by, direction-by, register-by, fed-back-by, link-of, shift_from, counted};
+ghost use Rattle.runs.specs.Views.{view, Kept, Admitted, Released};
+
 use super::Frame;
 use cipher::Block;
-use engines::work::Direction;
-use engines::work::Work;
+use engines::work::{Direction, Work};
 use modes::family::Family;
 use modes::way::Way;
 
 /// What goes into the engine for a unit, where the chain has `link` for it.
 fn input_for(family: Family, way: Way, unit: u64, link: u64, register: Block) -> Block
-    ensures { λ r. ⌜ r ≡ input-by family way unit link register ⌝ }
+    ensures { result ≡ input-by family way unit link register }
 {
     match (family, way) {
         (Family::Chaining, Way::Enciphering) => unit ^ link,
@@ -28,7 +25,7 @@ fn input_for(family: Family, way: Way, unit: u64, link: u64, register: Block) ->
 
 /// What the result is joined with as it comes out.
 fn mask_for(family: Family, way: Way, unit: u64, link: u64) -> u64
-    ensures { λ r. ⌜ r ≡ mask-by family way unit link ⌝ }
+    ensures { result ≡ mask-by family way unit link }
 {
     match (family, way) {
         (Family::Chaining, Way::Deciphering) => link,
@@ -38,7 +35,7 @@ fn mask_for(family: Family, way: Way, unit: u64, link: u64) -> u64
 }
 
 fn direction_for(family: Family, way: Way) -> Direction
-    ensures { λ r. ⌜ r ≡ direction-by family way ⌝ }
+    ensures { result ≡ direction-by family way }
 {
     match (family, way) {
         (Family::Codebook, Way::Deciphering) | (Family::Chaining, Way::Deciphering) =>
@@ -49,7 +46,7 @@ fn direction_for(family: Family, way: Way) -> Direction
 
 /// Only cipher feedback keeps a register.
 fn register_after(family: Family, old: Block, new: Block) -> Block
-    ensures { λ r. ⌜ r ≡ register-by family old new ⌝ }
+    ensures { result ≡ register-by family old new }
 {
     match family {
         Family::CipherFeedback => new,
@@ -59,7 +56,7 @@ fn register_after(family: Family, old: Block, new: Block) -> Block
 
 /// What goes back into the chain as a result comes out.
 fn fed_back(family: Family, block: Block, unit: u64) -> u64
-    ensures { λ r. ⌜ r ≡ fed-back-by family block unit ⌝ }
+    ensures { result ≡ fed-back-by family block unit }
 {
     match family {
         Family::OutputFeedback => block,
@@ -70,7 +67,7 @@ fn fed_back(family: Family, block: Block, unit: u64) -> u64
 impl Frame {
     /// What the chain has for the next unit.
     fn link(&self) -> u64
-        ensures { λ r. ⌜ r ≡ link-of (now (self .entry) .mode) (now (self .entry) .way) (view (now (self .entry))) ⌝ }
+        ensures { result ≡ link-of self.now.mode self.now.way (view self.now) }
     {
         let place = match self.mode.distance(self.way) {
             Some(_) => self.pending.len(),
@@ -81,7 +78,7 @@ impl Frame {
 
     /// The register for the next unit, where the chain has `link` for it.
     fn shifted(&self, link: u64) -> Block
-        ensures { λ r. ⌜ r ≡ shift-from (now (self .entry) .mode) (now (self .entry) .way) (view (now (self .entry))) link ⌝ }
+        ensures { result ≡ shift_from self.now.mode self.now.way (view self.now) link }
     {
         if self.taken < self.mode.initial_values() {
             link
@@ -92,11 +89,11 @@ impl Frame {
 
     /// Takes a unit in, and says what goes into the engine for it.
     fn enter(&mut self, unit: u64) -> Work
-        requires { ⌜ now self .before + now self .taken < unit-limit ⌝ }
-        ensures after { λ r. ⌜ Admitted (now (self .entry) .mode) (now (self .entry) .way) (view (now (self .entry))) (view (now (self .exit))) (Some unit) (Some r) ⌝ }
-        ensures same { λ _. ⌜ Kept (now (self .entry)) (now (self .exit)) ⌝ }
-        ensures most { λ _. ⌜ length (items (now (self .exit) .pending)) ≤ length (items (now (self .entry) .pending)) + 1 ⌝ }
-        ensures count { λ _. ⌜ now (self .exit) .taken ≡ now (self .entry) .taken + 1 ⌝ }
+        requires { self.old.before + self.old.taken < unit-limit }
+        ensures after { Admitted self.old.mode self.old.way (view self.old) (view self.new) (Some unit) (Some result) }
+        ensures same { Kept self.old self.new }
+        ensures most { length (items self.new.pending) ≤ length (items self.old.pending) + 1 }
+        ensures count { self.new.taken ≡ self.old.taken + 1 }
     {
         let family = self.mode.family();
         let way = self.way;
@@ -116,10 +113,10 @@ impl Frame {
 
     /// Makes the unit that is handed out from a result; none where no unit is waited for.
     fn leave(&mut self, block: Block) -> Option<u64>
-        ensures after { λ r. ⌜ Released (now (self .entry) .mode) (now (self .entry) .way) (view (now (self .entry))) (view (now (self .exit))) (Some block) r ⌝ }
-        ensures same { λ _. ⌜ Kept (now (self .entry)) (now (self .exit)) ⌝ }
-        ensures most { λ r. ⌜ length (items (now (self .exit) .pending)) + one-if r ≤ length (items (now (self .entry) .pending)) ⌝ }
-        ensures count { λ _. ⌜ now (self .exit) .taken ≡ now (self .entry) .taken ⌝ }
+        ensures after { Released self.old.mode self.old.way (view self.old) (view self.new) (Some block) result }
+        ensures same { Kept self.old self.new }
+        ensures most { length (items self.new.pending) + one-if result ≤ length (items self.old.pending) }
+        ensures count { self.new.taken ≡ self.old.taken }
     {
         let mode = self.mode;
         let way = self.way;
@@ -137,19 +134,19 @@ impl Frame {
 
     /// Counts a cycle.
     pub(crate) fn count_cycle(&mut self)
-        ensures after { λ _. ⌜ view (now (self .exit)) ≡ counted (view (now (self .entry))) ⌝ }
-        ensures same { λ _. ⌜ Kept (now (self .entry)) (now (self .exit)) ⌝ }
+        ensures after { view self.new ≡ counted (view self.old) }
+        ensures same { Kept self.old self.new }
     {
         self.cycles = self.cycles.wrapping_add(1);
     }
 
     /// Takes a unit or none in, and says what goes into the engine.
     pub(crate) fn admit(&mut self, unit: Option<u64>) -> Option<Work>
-        requires { ⌜ now self .before + now self .taken + one-if unit ≤ unit-limit ⌝ }
-        ensures after { λ r. ⌜ Admitted (now (self .entry) .mode) (now (self .entry) .way) (view (now (self .entry))) (view (now (self .exit))) unit r ⌝ }
-        ensures same { λ _. ⌜ Kept (now (self .entry)) (now (self .exit)) ⌝ }
-        ensures most { λ _. ⌜ length (items (now (self .exit) .pending)) ≤ length (items (now (self .entry) .pending)) + one-if unit ⌝ }
-        ensures count { λ _. ⌜ now (self .exit) .taken ≡ now (self .entry) .taken + one-if unit ⌝ }
+        requires { self.old.before + self.old.taken + one-if unit ≤ unit-limit }
+        ensures after { Admitted self.old.mode self.old.way (view self.old) (view self.new) unit result }
+        ensures same { Kept self.old self.new }
+        ensures most { length (items self.new.pending) ≤ length (items self.old.pending) + one-if unit }
+        ensures count { self.new.taken ≡ self.old.taken + one-if unit }
     {
         match unit {
             Some(u) => Some(self.enter(u)),
@@ -159,10 +156,10 @@ impl Frame {
 
     /// Makes what is handed out from what came out of the engine.
     pub(crate) fn release(&mut self, answer: Option<Block>) -> Option<u64>
-        ensures after { λ r. ⌜ Released (now (self .entry) .mode) (now (self .entry) .way) (view (now (self .entry))) (view (now (self .exit))) answer r ⌝ }
-        ensures same { λ _. ⌜ Kept (now (self .entry)) (now (self .exit)) ⌝ }
-        ensures most { λ r. ⌜ length (items (now (self .exit) .pending)) + one-if r ≤ length (items (now (self .entry) .pending)) ⌝ }
-        ensures count { λ _. ⌜ now (self .exit) .taken ≡ now (self .entry) .taken ⌝ }
+        ensures after { Released self.old.mode self.old.way (view self.old) (view self.new) answer result }
+        ensures same { Kept self.old self.new }
+        ensures most { length (items self.new.pending) + one-if result ≤ length (items self.old.pending) }
+        ensures count { self.new.taken ≡ self.old.taken }
     {
         match answer {
             Some(block) => self.leave(block),

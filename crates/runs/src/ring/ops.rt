@@ -1,17 +1,15 @@
 //! Putting in at the end and taking out at the front.
-ghost use mathlib.Core.Path.{_≡_};
-ghost use mathlib.Core.List.{[], _∷_, _++_};
-ghost use Prim.Native.Nat.{_+_, _<_, _≤_};
-ghost use lib.ListN.{length, getD, drop};
-ghost use Rattle·engines.specs.Depths.{greatest-depth};
-ghost use Rattle·runs·specs.Rings.{items, first-of};
-ghost use Rattle·runs·specs.Steps.{pushed};
+ghost use Rattle.std.specs.Prelude.{◌≡◌, ◌+◌, ◌<◌, ◌≤◌, [], ◌∷◌, ◌++◌, length, drop, slice_index};
+ghost use Rattle.engines.specs.Depths.{greatest-depth};
+ghost use Rattle.runs.specs.Rings.{items, first_of};
+ghost use Rattle.runs.specs.Steps.{pushed};
+
 use super::Ring;
 use engines::engine::GREATEST_DEPTH;
 
 impl Ring {
     pub(crate) fn new() -> Ring
-        ensures { λ r. ⌜ items r ≡ [] ⌝ }
+        ensures { items result ≡ [] }
     {
         Ring {
             places: [0; GREATEST_DEPTH],
@@ -21,15 +19,15 @@ impl Ring {
     }
 
     pub(crate) fn len(&self) -> usize
-        ensures value { λ r. ⌜ r ≡ length (items (now (self .entry))) ⌝ }
-        ensures most { λ r. ⌜ r ≤ greatest-depth ⌝ }
+        ensures value { result ≡ length (items self.now) }
+        ensures most { result ≤ greatest-depth }
     {
         self.count
     }
 
     /// The number at place `i`, or 0 past the last.
     pub(crate) fn at(&self, i: usize) -> u64
-        ensures { λ r. ⌜ r ≡ getD (items (now (self .entry))) i 0 ⌝ }
+        ensures { result ≡ slice_index (items self.now) i }
     {
         if i < self.count {
             self.places[(self.oldest + i) % GREATEST_DEPTH]
@@ -40,9 +38,9 @@ impl Ring {
 
     /// Puts a number in at the end; a full ring stays as it is.
     pub(crate) fn push(&mut self, number: u64)
-        ensures room { λ _. ⌜ (length (items (now (self .entry))) < greatest-depth → items (now (self .exit)) ≡ items (now (self .entry)) ++ number ∷ []) ⌝ }
-        ensures full { λ _. ⌜ (greatest-depth ≤ length (items (now (self .entry))) → items (now (self .exit)) ≡ items (now (self .entry))) ⌝ }
-        ensures most { λ _. ⌜ length (items (now (self .exit))) ≤ length (items (now (self .entry))) + 1 ⌝ }
+        ensures room { length (items self.old) < greatest-depth → items self.new ≡ items self.old ++ number ∷ [] }
+        ensures full { greatest-depth ≤ length (items self.old) → items self.new ≡ items self.old }
+        ensures most { length (items self.new) ≤ length (items self.old) + 1 }
     {
         if self.count < GREATEST_DEPTH {
             self.places[(self.oldest + self.count) % GREATEST_DEPTH] = number;
@@ -52,8 +50,8 @@ impl Ring {
 
     /// Takes the oldest number out.
     pub(crate) fn pop(&mut self) -> Option<u64>
-        ensures value { λ r. ⌜ r ≡ first-of (items (now (self .entry))) ⌝ }
-        ensures rest { λ _. ⌜ items (now (self .exit)) ≡ drop 1 (items (now (self .entry))) ⌝ }
+        ensures value { result ≡ first_of (items self.old) }
+        ensures rest { items self.new ≡ drop 1 (items self.old) }
     {
         if self.count == 0 {
             return None;
@@ -66,7 +64,7 @@ impl Ring {
 
     /// Puts a number in at the end and takes the oldest out.
     pub(crate) fn pass(&mut self, number: u64)
-        ensures { λ _. ⌜ (length (items (now (self .entry))) < greatest-depth → items (now (self .exit)) ≡ pushed (items (now (self .entry))) number) ⌝ }
+        ensures { length (items self.old) < greatest-depth → items self.new ≡ pushed (items self.old) number }
     {
         self.push(number);
         let _ = self.pop();

@@ -1,8 +1,8 @@
 //! Closing a run.
-ghost use mathlib.Core.Path.{_≡_};
-ghost use Prim.Native.Nat.{_+_};
-ghost use Rattle·calls.specs.Theorem.{Theorem};
-ghost use Rattle·runs·specs.Stands.{Closed};
+ghost use Rattle.std.specs.Prelude.{◌≡◌, ◌+◌};
+ghost use Rattle.calls.specs.Theorem.{Theorem};
+ghost use Rattle.runs.specs.Stands.{Closed};
+
 use super::super::cartridge::Cartridge;
 use super::Run;
 use engines::engine::Engine;
@@ -10,10 +10,10 @@ use engines::engine::Engine;
 impl<E: Engine, W: Drop> Run<E, W> {
     /// Gives the cartridge back. Units still in the engine are lost.
     pub fn close(self) -> Cartridge<E>
-        ensures closed { λ r. ⌜ Closed (E·Engine .machine (self .engine)) (E·Engine .machine (r .engine)) (self .frame) (r .count) ⌝ }
-        ensures theorem { λ _. ⌜ Theorem ⌝ }
-        ensures engine { λ r. ⌜ r .engine ≡ self .engine ⌝ }
-        ensures count { λ r. ⌜ r .count ≡ self .frame .before + self .frame .taken ⌝ }
+        ensures closed { Closed (E.Engine.machine self.engine) (E.Engine.machine result.engine) self.frame result.count }
+        ensures theorem { Theorem }
+        ensures engine { result.engine ≡ self.engine }
+        ensures count { result.count ≡ self.frame.before + self.frame.taken }
     {
         let Run {
             heading,

@@ -1,15 +1,12 @@
 //! Feeding a run.
-ghost use mathlib.Core.Path.{_≡_};
-ghost use Prim.Native.Nat.{_+_, _≤_, _^_};
-ghost use lib.Dec.{ltb};
-ghost use lib.ListN.{length};
-ghost use Rattle·std.specs.Vec.{made, refused};
-ghost use Rattle·modes.specs.Table.{row};
-ghost use Rattle·calls.specs.Due.{first-wide};
-ghost use Rattle·calls.specs.Limits.{unit-limit};
-ghost use Rattle·runs·specs.Rings.{items};
-ghost use Rattle·runs·specs.Stands.{of-run};
-ghost use Rattle·runs·specs.Handing.{Fed, feed-refusal, refusal-in, Pumps, Onward, Same};
+ghost use Rattle.std.specs.Prelude.{◌≡◌, ◌+◌, ◌^◌, ◌≤◌, length, IfOk, OnErr, nat_lt};
+ghost use Rattle.modes.specs.Table.{row};
+ghost use Rattle.calls.specs.Due.{first-wide};
+ghost use Rattle.calls.specs.Limits.{unit-limit};
+ghost use Rattle.runs.specs.Rings.{items};
+ghost use Rattle.runs.specs.Stands.{of-run};
+ghost use Rattle.runs.specs.Handing.{Fed, feed-refusal, refusal-in, Pumps, Onward, Same};
+
 use super::Run;
 use calls::UNIT_LIMIT;
 use engines::engine::Engine;
@@ -18,7 +15,7 @@ use refusals::Refusal;
 
 // Whether a unit has no more bits than the mode's width.
 fn is_narrow(mode: Mode, unit: u64) -> bool
-    ensures { λ r. ⌜ r ≡ ltb unit (2 ^ (row mode .width)) ⌝ }
+    ensures { result ≡ nat_lt unit (2 ^ (row mode).width) }
 {
     let width = mode.width();
     width >= 64 || unit >> width == 0
@@ -26,7 +23,7 @@ fn is_narrow(mode: Mode, unit: u64) -> bool
 
 /// The index of the first unit that is too wide for the mode.
 fn first_too_wide(mode: Mode, units: &[u64]) -> Option<usize>
-    ensures { λ r. ⌜ r ≡ first-wide (row mode .width) 0 (now (units .entry)) ⌝ }
+    ensures { result ≡ first-wide (row mode).width 0 units.now }
 {
     for (i, unit) in units.iter().enumerate() {
         if !is_narrow(mode, *unit) {
@@ -39,11 +36,11 @@ fn first_too_wide(mode: Mode, units: &[u64]) -> Option<usize>
 impl<E: Engine, W> Run<E, W> {
     /// Each unit enters in its cycle, and what comes out is written.
     fn pump(&mut self, units: &[u64], out: &mut [u64]) -> usize
-        requires room { ⌜ length (items (now self .frame .pending)) + length (now units) ≤ length (now out) ⌝ }
-        requires limit { ⌜ now self .frame .before + now self .frame .taken + length (now units) ≤ unit-limit ⌝ }
-        ensures pumped { λ r. ⌜ of-run Pumps (E·Engine .machine) (now (self .entry)) (now (self .exit)) (now (units .entry)) (length (now (units .entry))) r (now (out .entry)) (now (out .exit)) ⌝ }
-        ensures onward { λ r. ⌜ of-run Onward (E·Engine .machine) (now (self .entry)) (now (self .exit)) 0 r (length (now (units .entry))) ⌝ }
-        ensures idle { λ r. ⌜ (length (now (units .entry)) ≡ 0 → (r ≡ 0) × (now (self .exit) ≡ now (self .entry)) × (now (out .exit) ≡ now (out .entry))) ⌝ }
+        requires room { length (items self.old.frame.pending) + length units.now ≤ length out.old }
+        requires limit { self.old.frame.before + self.old.frame.taken + length units.now ≤ unit-limit }
+        ensures pumped { of-run Pumps E.Engine.machine self.old self.new units.now (length units.now) result out.old out.new }
+        ensures onward { of-run Onward E.Engine.machine self.old self.new 0 result (length units.now) }
+        ensures idle { length units.now ≡ 0 → (result ≡ 0) × (self.new ≡ self.old) × (out.new ≡ out.old) }
     {
         let mut given = 0;
         for unit in units {
@@ -57,12 +54,12 @@ impl<E: Engine, W> Run<E, W> {
     /// Refused, and then nothing is altered: an output list shorter than the units in the engine and those offered; a unit that
     /// is too wide for the mode; more units than the cartridge still takes.
     pub fn feed(&mut self, units: &[u64], out: &mut [u64]) -> Result<usize, Refusal>
-        ensures answered { λ r. ⌜ of-run Fed (E·Engine .machine) (now (self .entry)) (now (self .exit)) (now (units .entry)) (now (out .entry)) (now (out .exit)) r ⌝ }
-        ensures refusal { λ r. ⌜ refusal-in r ≡ feed-refusal (now (self .entry) .frame) (now (units .entry)) (length (now (out .entry))) ⌝ }
-        ensures within { λ r. ⌜ made r (λ n. n ≤ length (now (out .entry))) ⌝ }
-        ensures unaltered { λ r. ⌜ refused r (λ _. (now (self .exit) ≡ now (self .entry)) × (now (out .exit) ≡ now (out .entry))) ⌝ }
-        ensures idle { λ r. ⌜ (length (now (units .entry)) ≡ 0 → (now (self .exit) ≡ now (self .entry)) × (now (out .exit) ≡ now (out .entry))) ⌝ }
-        ensures same { λ _. ⌜ of-run Same (E·Engine .machine) (now (self .entry)) (now (self .exit)) ⌝ }
+        ensures answered { of-run Fed E.Engine.machine self.old self.new units.now out.old out.new result }
+        ensures refusal { refusal-in result ≡ feed-refusal self.old.frame units.now (length out.old) }
+        ensures within { IfOk result (λ n. n ≤ length out.old) }
+        ensures unaltered { OnErr result ((self.new ≡ self.old) × (out.new ≡ out.old)) }
+        ensures idle { length units.now ≡ 0 → (self.new ≡ self.old) × (out.new ≡ out.old) }
+        ensures same { of-run Same E.Engine.machine self.old self.new }
     {
         let wanted = self.frame.pending.len() + units.len();
         if out.len() < wanted {

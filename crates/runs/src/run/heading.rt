@@ -1,14 +1,15 @@
 //! Whether a run enciphers or deciphers, as a type.
-ghost use mathlib.Core.Path.{_≡_};
-ghost use Rattle·modes.specs.declared.way.Way.{Way as Ways};
-ghost use Rattle·modes.specs.declared.way.Way.the-variants.{Enciphering as Out, Deciphering as In};
+ghost use Rattle.std.specs.Prelude.{◌≡◌};
+ghost use Rattle.modes.specs.declared.way.Way.{Way as Ways};
+ghost use Rattle.modes.specs.declared.way.Way.TheVariants.{Enciphering as Out, Deciphering as In};
+
 use modes::way::Way;
 
 pub trait Heading {
     ghost heads: { Ways };
 
     fn way_of(&self) -> Way
-        ensures { λ r. ⌜ r ≡ heads ⌝ };
+        ensures { result ≡ heads };
 }
 
 /// The heading of an enciphering run.
@@ -19,7 +20,7 @@ pub struct Sending {}
 #[derive(Clone, Copy)]
 pub struct Receiving {}
 
-pub impl Heading for Sending as SendingHeading {
+impl Heading for Sending {
     ghost heads = { Out };
 
     fn way_of(&self) -> Way {
@@ -27,7 +28,7 @@ pub impl Heading for Sending as SendingHeading {
     }
 }
 
-pub impl Heading for Receiving as ReceivingHeading {
+impl Heading for Receiving {
     ghost heads = { In };
 
     fn way_of(&self) -> Way {

@@ -1,19 +1,18 @@
 //! Cycles one after the other, and the units that come out in them.
-ghost use mathlib.Core.Path.{_≡_};
-ghost use Prim.Native.Nat.{_+_, _-_, _≤_};
-ghost use lib.ListN.{length};
-ghost use Rattle·calls.specs.Limits.{unit-limit};
-ghost use Rattle·runs·specs.Rings.{items, one-if};
-ghost use Rattle·runs·specs.Stands.{of-run};
-ghost use Rattle·runs·specs.Handing.{written, Passes, Idles, Waits, Onward};
+ghost use Rattle.std.specs.Prelude.{◌≡◌, ◌+◌, ◌-◌, ◌≤◌, length};
+ghost use Rattle.calls.specs.Limits.{unit-limit};
+ghost use Rattle.runs.specs.Rings.{items, one-if};
+ghost use Rattle.runs.specs.Stands.{of-run};
+ghost use Rattle.runs.specs.Handing.{written, Passes, Idles, Waits, Onward};
+
 use super::Run;
 use engines::engine::Engine;
 
 // Writes a unit that came out behind the `given` ones before it, and says how many there are then.
 fn put(out: &mut [u64], given: usize, unit: Option<u64>) -> usize
-    requires { ⌜ given + one-if unit ≤ length (now out) ⌝ }
-    ensures after { λ _. ⌜ now (out .exit) ≡ written (now (out .entry)) given unit ⌝ }
-    ensures count { λ r. ⌜ r ≡ given + one-if unit ⌝ }
+    requires { given + one-if unit ≤ length out.old }
+    ensures after { out.new ≡ written out.old given unit }
+    ensures count { result ≡ given + one-if unit }
 {
     match unit {
         Some(x) => {
@@ -27,10 +26,10 @@ fn put(out: &mut [u64], given: usize, unit: Option<u64>) -> usize
 impl<E: Engine, W> Run<E, W> {
     /// One cycle, with a unit or none. What comes out is written behind the `given` units before it; says how many there are then.
     pub(crate) fn pass(&mut self, unit: Option<u64>, out: &mut [u64], given: usize) -> usize
-        requires limit { ⌜ now self .frame .before + now self .frame .taken + one-if unit ≤ unit-limit ⌝ }
-        requires room { ⌜ given + length (items (now self .frame .pending)) + one-if unit ≤ length (now out) ⌝ }
-        ensures passed { λ r. ⌜ of-run Passes (E·Engine .machine) (now (self .entry)) (now (self .exit)) unit given r (now (out .entry)) (now (out .exit)) ⌝ }
-        ensures onward { λ r. ⌜ of-run Onward (E·Engine .machine) (now (self .entry)) (now (self .exit)) given r (one-if unit) ⌝ }
+        requires limit { self.old.frame.before + self.old.frame.taken + one-if unit ≤ unit-limit }
+        requires room { given + length (items self.old.frame.pending) + one-if unit ≤ length out.old }
+        ensures passed { of-run Passes E.Engine.machine self.old self.new unit given result out.old out.new }
+        ensures onward { of-run Onward E.Engine.machine self.old self.new given result (one-if unit) }
     {
         let unit = self.cycle(unit);
         put(out, given, unit)
@@ -38,9 +37,9 @@ impl<E: Engine, W> Run<E, W> {
 
     /// Empty cycles until all that was inside is out, one fewer than the engine is deep.
     pub(crate) fn empty(&mut self, out: &mut [u64]) -> usize
-        requires { ⌜ length (items (now self .frame .pending)) ≤ length (now out) ⌝ }
-        ensures emptied { λ r. ⌜ of-run Idles (E·Engine .machine) (now (self .entry)) (now (self .exit)) (E·Engine .machine (now (self .entry) .engine) .depth - 1) 0 r (now (out .entry)) (now (out .exit)) ⌝ }
-        ensures onward { λ r. ⌜ of-run Onward (E·Engine .machine) (now (self .entry)) (now (self .exit)) 0 r 0 ⌝ }
+        requires { length (items self.old.frame.pending) ≤ length out.old }
+        ensures emptied { of-run Idles E.Engine.machine self.old self.new ((E.Engine.machine self.old.engine).depth - 1) 0 result out.old out.new }
+        ensures onward { of-run Onward E.Engine.machine self.old self.new 0 result 0 }
     {
         let depth = self.engine.depth_of();
         let mut given = 0;
@@ -52,9 +51,9 @@ impl<E: Engine, W> Run<E, W> {
 
     /// Empty cycles until the result at the next unit's distance is out, which takes fewer than the engine is deep.
     pub(crate) fn wait(&mut self, out: &mut [u64], mut given: usize) -> usize
-        requires { ⌜ given + length (items (now self .frame .pending)) ≤ length (now out) ⌝ }
-        ensures waited { λ r. ⌜ of-run Waits (E·Engine .machine) (now (self .entry)) (now (self .exit)) given r (now (out .entry)) (now (out .exit)) ⌝ }
-        ensures onward { λ r. ⌜ of-run Onward (E·Engine .machine) (now (self .entry)) (now (self .exit)) given r 0 ⌝ }
+        requires { given + length (items self.old.frame.pending) ≤ length out.old }
+        ensures waited { of-run Waits E.Engine.machine self.old self.new given result out.old out.new }
+        ensures onward { of-run Onward E.Engine.machine self.old self.new given result 0 }
     {
         let Some(distance) = self.frame.mode.distance(self.frame.way) else {
             return given;

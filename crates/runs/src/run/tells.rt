@@ -1,43 +1,42 @@
 //! What a run tells.
-ghost use mathlib.Core.Path.{_≡_};
-ghost use Prim.Native.Nat.{_-_};
-ghost use lib.ListN.{length};
-ghost use Rattle·runs·specs.Rings.{items};
-ghost use Rattle·runs·specs.Standing.{blocks};
-ghost use Rattle·runs·specs.Stands.{Tells};
+ghost use Rattle.std.specs.Prelude.{◌≡◌, ◌-◌, length};
+ghost use Rattle.runs.specs.Rings.{items};
+ghost use Rattle.runs.specs.Standing.{blocks};
+ghost use Rattle.runs.specs.Stands.{Tells};
+
 use super::Run;
 use engines::engine::Engine;
 
 impl<E: Engine, W> Run<E, W> {
     /// How many units the run took.
     pub fn units_taken(&self) -> usize
-        ensures value { λ r. ⌜ r ≡ now (self .entry) .frame .taken ⌝ }
-        ensures due { λ r. ⌜ Tells (E·Engine .machine (now (self .entry) .engine)) (now (self .entry) .frame) (λ told. told .taken) r ⌝ }
+        ensures value { result ≡ self.now.frame.taken }
+        ensures due { Tells (E.Engine.machine self.now.engine) self.now.frame (λ told. told.taken) result }
     {
         self.frame.taken
     }
 
     /// How many of them it handed out.
     pub fn units_handed_out(&self) -> usize
-        ensures value { λ r. ⌜ r ≡ now (self .entry) .frame .taken - length (items (now (self .entry) .frame .pending)) ⌝ }
-        ensures due { λ r. ⌜ Tells (E·Engine .machine (now (self .entry) .engine)) (now (self .entry) .frame) (λ told. told .handed-out) r ⌝ }
+        ensures value { result ≡ self.now.frame.taken - length (items self.now.frame.pending) }
+        ensures due { Tells (E.Engine.machine self.now.engine) self.now.frame (λ told. told.handed_out) result }
     {
         self.units_taken().saturating_sub(self.units_inside())
     }
 
     /// How many are in the engine: the blocks in its row.
     pub fn units_inside(&self) -> usize
-        ensures value { λ r. ⌜ r ≡ length (items (now (self .entry) .frame .pending)) ⌝ }
-        ensures due { λ r. ⌜ Tells (E·Engine .machine (now (self .entry) .engine)) (now (self .entry) .frame) (λ told. told .inside) r ⌝ }
-        ensures row { λ r. ⌜ Tells (E·Engine .machine (now (self .entry) .engine)) (now (self .entry) .frame) (λ _. blocks (E·Engine .machine (now (self .entry) .engine) .row)) r ⌝ }
+        ensures value { result ≡ length (items self.now.frame.pending) }
+        ensures due { Tells (E.Engine.machine self.now.engine) self.now.frame (λ told. told.inside) result }
+        ensures row { Tells (E.Engine.machine self.now.engine) self.now.frame (λ _. blocks (E.Engine.machine self.now.engine).row) result }
     {
         self.frame.pending.len()
     }
 
     /// How many cycles the run took.
     pub fn cycles(&self) -> u64
-        ensures value { λ r. ⌜ r ≡ now (self .entry) .frame .cycles ⌝ }
-        ensures due { λ r. ⌜ Tells (E·Engine .machine (now (self .entry) .engine)) (now (self .entry) .frame) (λ told. told .cycles) r ⌝ }
+        ensures value { result ≡ self.now.frame.cycles }
+        ensures due { Tells (E.Engine.machine self.now.engine) self.now.frame (λ told. told.cycles) result }
     {
         self.frame.cycles
     }

@@ -1,6 +1,6 @@
-use Rattle·std.proofs.shelf.Results.{made-weaker}
-use Rattle·job_text·proofs.lines.refusal_line.Needs as need
+use Rattle.std.proofs.lemmas.Result.{IfOk-weaker}
+use Rattle.job_text.proofs.lines.refusal_line.Goals as goal
 
-pub returns : need.returns
+pub returns : goal.returns
 returns c =
-    made-weaker (c .format .result) _ _ (λ s e. simp (← c .number-number .ensures, ← c .detail-detail .ensures) e) (c .format .ensures .made)
+    IfOk-weaker c.format.result _ _ (λ s e. simp (← c.number-number.ensures, ← c.detail-detail.ensures) e) c.format.ensures.ok

@@ -1,28 +1,28 @@
-use Rattle·std.proofs.shelf.Results.{err-from-errBy}
-use Rattle·runs.proofs.Emptying.{same-then}
-use Rattle·jobs·proofs.CarriedOut.{drain-never-refused, carried-out}
-use Rattle·jobs·proofs.carrying.carry.Needs as need
+use Rattle.std.proofs.lemmas.Result.{err_from_is_err_and}
+use Rattle.runs.proofs.Emptying.{same_then}
+use Rattle.jobs.proofs.CarriedOut.{drain-never-refused, carried-out}
+use Rattle.jobs.proofs.carrying.carry.Goals as goal
 
-pub returns-in-Break-bytes : need.returns-in-Break-bytes
-returns-in-Break-bytes g c =
-    let p = err-from-errBy (c .from-residual-in-Break-bytes .result) (c .from-residual-in-Break-bytes .ensures .1) in
-    let machine = g .E·Engine .machine in
-    let run = c .args .run .now in
-    let fed = c .feed-all .last .run in
-    let drained = c .drain-off .last .run in
-    rw (p .1)
-    (drain-never-refused (machine (run .engine)) (machine (fed .engine)) (machine (drained .engine)) (run .frame) (fed .frame) (drained .frame)
-    (c .args .«data» .now) (c .args .out .now) (c .feed-all .last .out) (c .drain-off .last .out) (c .in-Continue-fed .fed) (c .args .mode)
-    (c .in-Continue-fed .ensures tt .fed) _ _ (c .in-Break-bytes .ensures tt .drained))
+pub returns-in-err-bytes : goal.returns-in-err-bytes
+returns-in-err-bytes g c =
+    let p = err_from_is_err_and c.from-residual-in-err-bytes.result c.from-residual-in-err-bytes.ensures.1 in
+    let machine = g.E.Engine.machine in
+    let run = c.args.run.now in
+    let fed = c.feed-all.new.run in
+    let drained = c.drain-off.new.run in
+    rw p.1
+    (drain-never-refused (machine run.engine) (machine fed.engine) (machine drained.engine) run.frame fed.frame drained.frame
+    c.args.«data».now c.args.out.now c.feed-all.new.out c.drain-off.new.out c.in-ok-fed.fed c.args.mode
+    c.in-ok-fed.ensures.fed _ _ c.in-err-bytes.ensures.drained)
 
-pub returns : need.returns
+pub returns : goal.returns
 returns g c =
-    let machine = g .E·Engine .machine in
-    let run = c .args .run .now in
-    let fed = c .feed-all .last .run in
-    let drained = c .drain-off .last .run in
-    carried-out (machine (run .engine)) (machine (fed .engine)) (machine (drained .engine)) (run .frame) (fed .frame) (drained .frame)
-    (c .args .«data» .now) (c .args .out .now) (c .feed-all .last .out) (c .drain-off .last .out) (c .in-Continue-fed .fed) (c .args .mode)
-    (c .in-Continue-fed .ensures tt .fed) (c .in-Continue-bytes .bytes) (c .units-taken .result) (c .cycles .result)
-    (same-then (machine (run .engine)) (machine (fed .engine)) (machine (drained .engine)) (c .feed-all .ensures .same) (c .drain-off .ensures .same))
-    (c .in-Continue-bytes .ensures tt .drained) (c .units-taken .ensures .value) (c .cycles .ensures .value)
+    let machine = g.E.Engine.machine in
+    let run = c.args.run.now in
+    let fed = c.feed-all.new.run in
+    let drained = c.drain-off.new.run in
+    carried-out (machine run.engine) (machine fed.engine) (machine drained.engine) run.frame fed.frame drained.frame
+    c.args.«data».now c.args.out.now c.feed-all.new.out c.drain-off.new.out c.in-ok-fed.fed c.args.mode
+    c.in-ok-fed.ensures.fed c.in-ok-bytes.bytes c.units-taken.result c.cycles.result
+    (same_then (machine run.engine) (machine fed.engine) (machine drained.engine) c.feed-all.ensures.same c.drain-off.ensures.same)
+    c.in-ok-bytes.ensures.drained c.units-taken.ensures.value c.cycles.ensures.value

@@ -1,32 +1,31 @@
-use mathlib.Core.Path.{refl}
-use lib.ListN.{length}
-use Rattle·std.proofs.shelf.Results.{err-from-errBy}
-use Rattle·calls.proofs.Whole.{theorem}
-use Rattle·job_format.specs.Fields.{parts-in}
-use Rattle·jobs·specs.Asking.{task-asked}
-use Rattle·jobs·proofs.AsRuns.{jobs-are-runs}
-use Rattle·jobs·proofs.Told.{fields-refused, task-refused, task-done, limited}
-use Rattle·jobs·proofs.Restoring.{jobs-restore}
-use Rattle·jobs·proofs.running.run_job.Needs as need
+use Rattle.std.proofs.Common.{length, refl}
+use Rattle.std.proofs.lemmas.Result.{err_from_is_err_and}
+use Rattle.calls.proofs.Whole.{theorem}
+use Rattle.job_format.specs.Fields.{parts_in}
+use Rattle.jobs.specs.Asking.{task-asked}
+use Rattle.jobs.proofs.AsRuns.{jobs-are-runs}
+use Rattle.jobs.proofs.Told.{fields-refused, task-refused, task-done, limited}
+use Rattle.jobs.proofs.Restoring.{jobs-restore}
+use Rattle.jobs.proofs.running.run_job.Goals as goal
 
-pub returns-in-Break-fields : need.returns-in-Break-fields
-returns-in-Break-fields c =
-    let p = err-from-errBy (c .from-residual .result) (c .from-residual .ensures .1) in
-    let t = fields-refused (c .args .job .now) (c .args .out .now) _ (c .in-Break-fields .ensures tt .value) in
-    rw (p .1, p .2) (record { answer = t .0; output = t .1; unchanged = refl; limit = tt; theorem = theorem; runs = jobs-are-runs; restoring = jobs-restore })
+pub returns-in-err-fields : goal.returns-in-err-fields
+returns-in-err-fields c =
+    let p = err_from_is_err_and c.from-residual.result c.from-residual.ensures.1 in
+    let t = fields-refused c.args.job.now c.args.out.now _ c.in-err-fields.ensures.value in
+    rw (p.1, p.2) (record { answer = t.0; output = t.1; unchanged = refl; limit = tt; theorem = theorem; runs = jobs-are-runs; restoring = jobs-restore })
 
-pub returns-in-Break-task : need.returns-in-Break-task
-returns-in-Break-task c =
-    let p = err-from-errBy (c .from-residual-in-Break-task .result) (c .from-residual-in-Break-task .ensures .1) in
-    let fields = c .in-Continue-fields .fields in
-    let t = task-refused (c .args .job .now) (c .args .out .now) (parts-in fields) (c .in-Continue-fields .ensures tt .value) _ (c .in-Break-task .ensures tt .value) in
-    rw (p .1, p .2) (record { answer = t .0; output = t .1; unchanged = refl; limit = tt; theorem = theorem; runs = jobs-are-runs; restoring = jobs-restore })
+pub returns-in-err-task : goal.returns-in-err-task
+returns-in-err-task c =
+    let p = err_from_is_err_and c.from-residual-in-err-task.result c.from-residual-in-err-task.ensures.1 in
+    let fields = c.in-ok-fields.fields in
+    let t = task-refused c.args.job.now c.args.out.now (parts_in fields) c.in-ok-fields.ensures.value _ c.in-err-task.ensures.value in
+    rw (p.1, p.2) (record { answer = t.0; output = t.1; unchanged = refl; limit = tt; theorem = theorem; runs = jobs-are-runs; restoring = jobs-restore })
 
-pub returns : need.returns
+pub returns : goal.returns
 returns c =
-    let fields = c .in-Continue-fields .fields in
-    let task = c .in-Continue-task .task in
-    let asked = task-asked task (fields .«data» .now) in
-    let t = task-done (c .args .job .now) (c .args .out .now) (parts-in fields) (c .in-Continue-fields .ensures tt .value) asked
-    (c .run .last .out) (c .run .result) (c .in-Continue-task .ensures tt .value) (c .run .ensures .answer) (c .run .ensures .output) in
-    record { answer = t .0; output = t .1; unchanged = refl; limit = limited asked (length (c .args .out .now)) (c .run .result) (c .in-Continue-task .ensures tt .ready) (c .run .ensures .answer); theorem = theorem; runs = jobs-are-runs; restoring = jobs-restore }
+    let fields = c.in-ok-fields.fields in
+    let task = c.in-ok-task.task in
+    let asked = task-asked task fields.«data».now in
+    let t = task-done c.args.job.now c.args.out.now (parts_in fields) c.in-ok-fields.ensures.value asked
+    c.run.new.out c.run.result c.in-ok-task.ensures.value c.run.ensures.answer c.run.ensures.output in
+    record { answer = t.0; output = t.1; unchanged = refl; limit = limited asked (length c.args.out.now) c.run.result c.in-ok-task.ensures.ready c.run.ensures.answer; theorem = theorem; runs = jobs-are-runs; restoring = jobs-restore }

@@ -1,18 +1,15 @@
-use mathlib.Core.Path.{_≡_, sym, subst}
-use Prim.Native.Nat.{ℕ, _+_}
-use borrow.Author.Needs.{needs}
-use native.Mathlib.Omega.{arith}
-use Rattle·cipher.specs.Bytes.{block-at}
-use Rattle·keys·specs.Parity.{Odd-bytes}
-use Rattle·keys·proofs.OddBytes.{none-even, odd-block}
-use Rattle·keys·proofs.loading.key_at.Needs as need
+use Rattle.std.proofs.Common.{◌≡◌, ℕ, ◌+◌, sym, subst, arith, rules}
+use Rattle.cipher.specs.Bytes.{block_at}
+use Rattle.keys.specs.Parity.{Odd-bytes}
+use Rattle.keys.proofs.OddBytes.{none-even, odd-block}
+use Rattle.keys.proofs.loading.key_at.Goals as goal
 
-pub ghost-result : need.ghost-result
-ghost-result c =
-    let bytes = c .args .bytes .now in
-    let at : ℕ = c .args .at in
-    let word : c .unwrap-word .result ≡ block-at bytes at = search needs in (
+pub invariant-of-result : goal.invariant-of-result
+invariant-of-result c =
+    let bytes = c.args.bytes.now in
+    let at : ℕ = c.args.at in
+    let word : c.unwrap-word.result ≡ block_at bytes at = search rules in (
       subst Odd-bytes (sym word)
-          (odd-block bytes at (λ k. c .typed .bytes k .fits) (λ k h. none-even 0 bytes (c .pre .odd) (at + k) (omega arith))),
+          (odd-block bytes at (λ k. (c.type-inv.bytes k).fits) (λ k h. none-even 0 bytes c.requires.odd (at + k) (omega arith))),
       tt,
     )

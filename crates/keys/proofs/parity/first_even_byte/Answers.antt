@@ -1,13 +1,13 @@
-use borrow.Author.Needs.{needs}
-use Rattle·std.proofs.shelf.Lists.{at-drop-more, at-drop-all}
-use Rattle·keys·specs.Parity.{first-even}
-use Rattle·keys·proofs.parity.first_even_byte.Needs as need
+use Rattle.std.proofs.Common.{rules}
+use Rattle.std.proofs.lemmas.List.{at_drop_more, at_drop_all}
+use Rattle.keys.specs.Parity.{first-even}
+use Rattle.keys.proofs.parity.first_even_byte.Goals as goal
 
-pub returns-then-byte-eq0 : need.returns-then-byte-eq0
-returns-then-byte-eq0 c = search (needs, at-drop-more (first-even (c .loop-i .i)) (c .args .bytes .now) (c .loop-i .i) 0)
+pub returns-then-byte-eq0 : goal.returns-then-byte-eq0
+returns-then-byte-eq0 c = search (rules, at_drop_more (first-even c.loop-i.i) c.args.bytes.now c.loop-i.i 0)
 
-pub loop-i-again : need.loop-i-again
-loop-i-again c = search (needs, at-drop-more (first-even (c .loop-i .i)) (c .args .bytes .now) (c .loop-i .i) 0)
+pub loop-i-preserved : goal.loop-i-preserved
+loop-i-preserved c = search (rules, at_drop_more (first-even c.loop-i.i) c.args.bytes.now c.loop-i.i 0)
 
-pub returns : need.returns
-returns c = search (needs, at-drop-all (first-even (c .loop-i .i)) (c .args .bytes .now) (c .loop-i .i))
+pub returns : goal.returns
+returns c = search (rules, at_drop_all (first-even c.loop-i.i) c.args.bytes.now c.loop-i.i)

@@ -1,12 +1,12 @@
-use borrow.Author.Needs.{needs}
-use Rattle·runs·proofs.Between.{between}
-use Rattle·runs·proofs.ends.units_on_the_way.Needs as need
+use Rattle.std.proofs.Common.{rules}
+use Rattle.runs.proofs.Between.{between}
+use Rattle.runs.proofs.ends.units_on_the_way.Goals as goal
 
-pub returns : need.returns
+pub returns : goal.returns
 returns g c =
-    let sender = c .args .sender .now in
-    let receiver = c .args .receiver .now in
+    let sender = c.args.sender.now in
+    let receiver = c.args.receiver.now in
     record {
-      value = search needs;
-      between = between _ _ (sender .frame) (receiver .frame) (g .S·Engine·met .undo (sender .engine)) (g .R·Engine·met .undo (receiver .engine));
+      value = search rules;
+      between = between _ _ sender.frame receiver.frame (g.met.S.Engine.undo sender.engine) (g.met.R.Engine.undo receiver.engine);
     }

@@ -1,14 +1,13 @@
-use mathlib.Core.Path.{ap}
-use Prim.Native.Nat.{_+_}
-use Rattle·runs·proofs.TwoFeeds.{closed-then}
-use Rattle·runs·proofs.whole.finish.Needs as need
+use Rattle.std.proofs.Common.{◌+◌, ap}
+use Rattle.runs.proofs.TwoFeeds.{closed-then}
+use Rattle.runs.proofs.whole.finish.Goals as goal
 
-pub returns : need.returns
+pub returns : goal.returns
 returns g c =
-    let machine = g .E·Engine .machine in
-    let run = c .args .run in
-    let last = c .feed-twice-answer .last .run in
-    let cartridge = c .close .result in
-    closed-then (machine (run .engine)) (machine (last .engine)) (machine (cartridge .engine)) (run .frame) (last .frame .before + last .frame .taken)
-    (cartridge .count) (c .args .first .now) (c .args .second .now) (c .args .out .now) (c .feed-twice-answer .last .out) (c .feed-twice-answer .result)
-    (ap machine (c .close .ensures .engine)) (c .close .ensures .count) (c .feed-twice-answer .ensures)
+    let machine = g.E.Engine.machine in
+    let run = c.args.run in
+    let last = c.feed-twice-answer.new.run in
+    let cartridge = c.close.result in
+    closed-then (machine run.engine) (machine last.engine) (machine cartridge.engine) run.frame (last.frame.before + last.frame.taken)
+    cartridge.count c.args.first.now c.args.second.now c.args.out.now c.feed-twice-answer.new.out c.feed-twice-answer.result
+    (ap machine c.close.ensures.engine) c.close.ensures.count c.feed-twice-answer.ensures

@@ -1,20 +1,18 @@
-use mathlib.Core.Path.{_≡_, ap, _∙_}
-use Prim.Native.Nat.{ℕ, suc, _+_, _-_}
-use native.Mathlib.Omega.{arith}
-use lib.Bits.{bitXor}
-use Rattle·cipher.specs.Functions.{forward-of, inverse-of}
-use Rattle·test_exports·specs.Speeds.{called}
-use Rattle·test_exports·proofs.speeds.call.Needs as need
+use Rattle.std.proofs.Common.{◌≡◌, ℕ, suc, ◌+◌, ◌-◌, ap, ◌∙◌, arith}
+use lib.Bits.{bit_xor}
+use Rattle.cipher.specs.Functions.{forward-of, inverse-of}
+use Rattle.test_exports.specs.Speeds.{called}
+use Rattle.test_exports.proofs.speeds.call.Goals as goal
 
-pub loop-number-again : need.loop-number-again
-loop-number-again c =
-    let i : ℕ = c .loop-number .number in
-    let all : ℕ = c .loop-number .all in
-    let first = c .args .first .now in
-    let second = c .args .second .now in
-    let third = c .args .third .now in
-    let k : ℕ = c .args .times - (i + 1) in
-    let more : suc k ≡ c .args .times - i = omega arith in
-    let here : c .forward-all .result ≡ forward-of third (inverse-of second (forward-of first i)) =
-    c .forward-all .ensures ∙ ap (forward-of third) (c .inverse .ensures ∙ ap (inverse-of second) (c .forward .ensures)) in
-    ap (λ (x : ℕ). called k (i + 1) first second third (bitXor all x)) here ∙ ap (λ (n : ℕ). called n i first second third all) more ∙ c .loop-number .inv
+pub loop-number-preserved : goal.loop-number-preserved
+loop-number-preserved c =
+    let i : ℕ = c.loop-number.number in
+    let all : ℕ = c.loop-number.all in
+    let first = c.args.first.now in
+    let second = c.args.second.now in
+    let third = c.args.third.now in
+    let k : ℕ = c.args.times - (i + 1) in
+    let more : suc k ≡ c.args.times - i = omega arith in
+    let here : c.forward-all.result ≡ forward-of third (inverse-of second (forward-of first i)) =
+    c.forward-all.ensures ∙ ap (forward-of third) (c.inverse.ensures ∙ ap (inverse-of second) c.forward.ensures) in
+    ap (λ (x : ℕ). called k (i + 1) first second third (bit_xor all x)) here ∙ ap (λ (n : ℕ). called n i first second third all) more ∙ c.loop-number.invariant

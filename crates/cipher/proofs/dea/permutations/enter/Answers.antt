@@ -1,8 +1,7 @@
-use mathlib.Core.Path.{ap, _∙_}
-use Prim.Native.Nat.{ℕ, _/_, _^_}
-use lib.Bits.{and-mask}
-use Rattle·cipher·specs.Rounds.{halves}
-use Rattle·cipher·proofs.dea.permutations.enter.Needs as need
+use Rattle.std.proofs.Common.{ℕ, ◌/◌, ◌^◌, ap, ◌∙◌}
+use lib.Bits.{and_mask}
+use Rattle.cipher.specs.Rounds.{halves}
+use Rattle.cipher.proofs.dea.permutations.enter.Goals as goal
 
-pub returns : need.returns
-returns c = ap (λ (y : ℕ). (c .permute-x .result / 2 ^ 32, y)) (and-mask (c .permute-x .result) 32) ∙ ap halves (c .permute-x .ensures)
+pub returns : goal.returns
+returns c = ap (λ (y : ℕ). (c.permute-x.result / 2 ^ 32, y)) (and_mask c.permute-x.result 32) ∙ ap halves c.permute-x.ensures

@@ -1,14 +1,11 @@
-use mathlib.Core.Path.{_≡_, ap, _∙_}
-use Prim.Native.Nat.{ℕ, _*_, _%_, _^_}
-use native.Mathlib.Nat.{mod-eq-of-lt}
-use native.Mathlib.Omega.{arith}
-use lib.Bits.{bitOr, or-shifted}
-use Rattle·cipher·specs.Rounds.{ip-inverse}
-use Rattle·cipher·proofs.dea.permutations.leave.Needs as need
+use Rattle.std.proofs.Common.{◌≡◌, ℕ, ◌*◌, ◌%◌, ◌^◌, ap, ◌∙◌, mod-eq_of_lt, arith}
+use lib.Bits.{bit_or, or_shifted}
+use Rattle.cipher.specs.Rounds.{ip-inverse}
+use Rattle.cipher.proofs.dea.permutations.leave.Goals as goal
 
-pub returns : need.returns
+pub returns : goal.returns
 returns c =
-    let l : ℕ = c .args .halves .0 in
-    let r : ℕ = c .args .halves .1 in
-    let whole : r * 2 ^ 32 % 2 ^ 64 ≡ r * 2 ^ 32 = mod-eq-of-lt (omega arith) in
-    c .permute-back .ensures ∙ ap ip-inverse (ap (λ (h : ℕ). bitOr h l) whole ∙ or-shifted r 32 l (omega arith))
+    let l : ℕ = c.args.halves.0 in
+    let r : ℕ = c.args.halves.1 in
+    let whole : r * 2 ^ 32 % 2 ^ 64 ≡ r * 2 ^ 32 = mod-eq_of_lt (omega arith) in
+    c.permute-back.ensures ∙ ap ip-inverse (ap (λ (h : ℕ). bit_or h l) whole ∙ or_shifted r 32 l (omega arith))

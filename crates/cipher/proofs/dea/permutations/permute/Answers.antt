@@ -1,6 +1,6 @@
-use native.Mathlib.Omega.{arith}
-use Rattle·cipher·proofs.Exchanges.{ip-exchanged}
-use Rattle·cipher·proofs.dea.permutations.permute.Needs as need
+use Rattle.std.proofs.Common.{arith}
+use Rattle.cipher.proofs.Exchanges.{ip-exchanged}
+use Rattle.cipher.proofs.dea.permutations.permute.Goals as goal
 
-pub returns : need.returns
-returns c = let e = ip-exchanged (c .args .block) (omega arith) in cc
+pub returns : goal.returns
+returns c = let e = ip-exchanged c.args.block (omega arith) in cc

@@ -1,6 +1,6 @@
-use native.Mathlib.Omega.{arith}
-use Rattle·cipher·proofs.Exchanges.{ip-inverse-exchanged}
-use Rattle·cipher·proofs.dea.permutations.permute_back.Needs as need
+use Rattle.std.proofs.Common.{arith}
+use Rattle.cipher.proofs.Exchanges.{ip-inverse-exchanged}
+use Rattle.cipher.proofs.dea.permutations.permute_back.Goals as goal
 
-pub returns : need.returns
-returns c = let e = ip-inverse-exchanged (c .args .block) (omega arith) in cc
+pub returns : goal.returns
+returns c = let e = ip-inverse-exchanged c.args.block (omega arith) in cc

@@ -1,7 +1,7 @@
-use mathlib.Core.Path.{refl}
-use Rattle·cipher·specs.Combined.{window}
-use Rattle·cipher·proofs.dea.rounds.window.Needs as need
+use Rattle.std.proofs.Common.{refl}
+use Rattle.cipher.specs.Combined.{window}
+use Rattle.cipher.proofs.dea.rounds.window.Goals as goal
 
-pub returns : need.returns
+pub returns : goal.returns
 unfolding window
 returns c = refl

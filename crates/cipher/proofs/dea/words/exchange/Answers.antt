@@ -1,7 +1,7 @@
-use mathlib.Core.Path.{refl}
-use Rattle·cipher·specs.Exchanges.{exchanged}
-use Rattle·cipher·proofs.dea.words.exchange.Needs as need
+use Rattle.std.proofs.Common.{refl}
+use Rattle.cipher.specs.Exchanges.{exchanged}
+use Rattle.cipher.proofs.dea.words.exchange.Goals as goal
 
-pub returns : need.returns
+pub returns : goal.returns
 unfolding exchanged
 returns c = refl

@@ -1,16 +1,16 @@
-use Rattle·engines·proofs.Stages.{line-answered, line-turned}
-use Rattle·engines·proofs.line.LineEngine.clock.Needs as need
+use Rattle.engines.proofs.Stages.{line-answered, line-turned}
+use Rattle.engines.proofs.line.LineEngine.clock.Goals as goal
 
-pub returns : need.returns
+pub returns : goal.returns
 returns g c =
-    let l = c .args .self .now in
-    let l′ = c .advance .last .self in
-    let input = c .args .input in
-    let cycle = c .advance .ensures in
+    let l = c.args.self.now in
+    let l' = c.advance.new.self in
+    let input = c.args.input in
+    let cycle = c.advance.ensures in
     record {
       answer =
-          line-answered (g .A·Cipher) (g .B·Cipher) (g .C·Cipher) l l′ input (c .state .result) (c .block .result) cycle (c .state .ensures)
-          (c .block .ensures);
-      after = line-turned (g .A·Cipher) (g .B·Cipher) (g .C·Cipher) l l′ input cycle;
+          line-answered g.A.Cipher g.B.Cipher g.C.Cipher l l' input c.state.result c.block.result cycle c.state.ensures
+          c.block.ensures;
+      after = line-turned g.A.Cipher g.B.Cipher g.C.Cipher l l' input cycle;
       held = cycle;
     }

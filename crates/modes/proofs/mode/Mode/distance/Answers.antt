@@ -1,11 +1,10 @@
-use mathlib.Core.Path.{_≡_, sym, _∙_}
-use borrow.Author.Needs.{needs}
-use Rattle·modes·specs.Table.{distanceOf}
-use Rattle·modes·proofs.Fits.{distance-proper}
-use Rattle·modes·proofs.Entries.{schedule}
-use Rattle·modes·proofs.mode.Mode.distance.Needs as need
+use Rattle.std.proofs.Common.{◌≡◌, sym, ◌∙◌, rules}
+use Rattle.modes.specs.Table.{distance_of}
+use Rattle.modes.proofs.Fits.{distance-proper}
+use Rattle.modes.proofs.Entries.{schedule}
+use Rattle.modes.proofs.mode.Mode.distance.Goals as goal
 
-pub returns : need.returns
+pub returns : goal.returns
 returns c =
-    let value : c .distance .result ≡ distanceOf (c .args .self) (c .args .way) = search needs in
-    record { value = value; proper = λ e. distance-proper (c .args .self) (c .args .way) (sym value ∙ e); schedule = schedule }
+    let value : c.distance.result ≡ distance_of c.args.self c.args.way = search rules in
+    record { value = value; proper = λ e. distance-proper c.args.self c.args.way (sym value ∙ e); schedule = schedule }

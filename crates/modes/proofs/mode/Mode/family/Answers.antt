@@ -1,6 +1,6 @@
-use borrow.Author.Needs.{needs}
-use Rattle·modes·proofs.Numbered.{equations}
-use Rattle·modes·proofs.mode.Mode.family.Needs as need
+use Rattle.std.proofs.Common.{rules}
+use Rattle.modes.proofs.Numbered.{equations}
+use Rattle.modes.proofs.mode.Mode.family.Goals as goal
 
-pub returns : need.returns
-returns c = record { value = search needs; equations = equations }
+pub returns : goal.returns
+returns c = record { value = search rules; equations = equations }

@@ -1,7 +1,7 @@
-use borrow.Author.Needs.{needs}
-use Rattle·modes·proofs.Fits.{values-within}
-use Rattle·modes·proofs.Receiving.{restoring}
-use Rattle·modes·proofs.mode.Mode.initial_values.Needs as need
+use Rattle.std.proofs.Common.{rules}
+use Rattle.modes.proofs.Fits.{values-within}
+use Rattle.modes.proofs.Receiving.{restoring}
+use Rattle.modes.proofs.mode.Mode.initial_values.Goals as goal
 
-pub returns : need.returns
-returns c = record { value = search needs; within = search (needs, values-within (c .args .self)); restoring = restoring }
+pub returns : goal.returns
+returns c = record { value = search rules; within = search (rules, values-within c.args.self); restoring = restoring }

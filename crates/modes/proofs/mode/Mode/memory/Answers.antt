@@ -1,6 +1,6 @@
-use borrow.Author.Needs.{needs}
-use Rattle·modes·proofs.Receiving.{recovery}
-use Rattle·modes·proofs.mode.Mode.memory.Needs as need
+use Rattle.std.proofs.Common.{rules}
+use Rattle.modes.proofs.Receiving.{recovery}
+use Rattle.modes.proofs.mode.Mode.memory.Goals as goal
 
-pub returns : need.returns
-returns c = record { value = search needs; recovery = recovery }
+pub returns : goal.returns
+returns c = record { value = search rules; recovery = recovery }

@@ -1,6 +1,6 @@
-use borrow.Author.Needs.{needs}
-use Rattle·modes·proofs.Damages.{damage}
-use Rattle·modes·proofs.mode.Mode.reach.Needs as need
+use Rattle.std.proofs.Common.{rules}
+use Rattle.modes.proofs.Damages.{damage}
+use Rattle.modes.proofs.mode.Mode.reach.Goals as goal
 
-pub returns : need.returns
-returns c = record { value = search needs; damage = damage }
+pub returns : goal.returns
+returns c = record { value = search rules; damage = damage }

@@ -1,7 +1,7 @@
-use borrow.Author.Needs.{needs}
-use Rattle·modes·proofs.Fits.{width-within}
-use Rattle·modes·proofs.Receiving.{units-give-units, prefix}
-use Rattle·modes·proofs.mode.Mode.width.Needs as need
+use Rattle.std.proofs.Common.{rules}
+use Rattle.modes.proofs.Fits.{width-within}
+use Rattle.modes.proofs.Receiving.{units-give-units, prefix}
+use Rattle.modes.proofs.mode.Mode.width.Goals as goal
 
-pub returns : need.returns
-returns c = record { value = search needs; within = search (needs, width-within (c .args .self)); units = units-give-units; prefix = prefix }
+pub returns : goal.returns
+returns c = record { value = search rules; within = search (rules, width-within c.args.self); units = units-give-units; prefix = prefix }

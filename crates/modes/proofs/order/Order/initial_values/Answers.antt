@@ -1,11 +1,11 @@
-use borrow.Author.Needs.{needs}
-use Rattle·modes·proofs.Openings.{suits-begins, same-opening-same-order}
-use Rattle·modes·proofs.order.Order.initial_values.Needs as need
+use Rattle.std.proofs.Common.{rules}
+use Rattle.modes.proofs.Openings.{suits-begins, same-opening-same-order}
+use Rattle.modes.proofs.order.Order.initial_values.Goals as goal
 
-pub returns : need.returns
+pub returns : goal.returns
 returns c =
     record {
-      value = search needs;
-      suited = suits-begins (c .args .self .mode) (c .args .self .values) (c .args .self .suited);
+      value = search rules;
+      suited = suits-begins c.args.self.mode c.args.self.values c.args.self.suited;
       law = same-opening-same-order;
     }

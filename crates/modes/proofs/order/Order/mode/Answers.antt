@@ -1,6 +1,6 @@
-use borrow.Author.Needs.{needs}
-use Rattle·modes·proofs.Openings.{orders-are-answers}
-use Rattle·modes·proofs.order.Order.mode.Needs as need
+use Rattle.std.proofs.Common.{rules}
+use Rattle.modes.proofs.Openings.{orders-are-answers}
+use Rattle.modes.proofs.order.Order.mode.Goals as goal
 
-pub returns : need.returns
-returns c = record { value = search needs; law = orders-are-answers }
+pub returns : goal.returns
+returns c = record { value = search rules; law = orders-are-answers }

@@ -1,21 +1,19 @@
-use borrow.Author.Needs.{needs}
-use native.Mathlib.Omega.{arith}
-use mathlib.Core.Path.{refl, ap, _∙_}
-use Rattle·modes.specs.Values.{listed}
-use Rattle·runs·specs.Stands.{Fresh}
-use Rattle·runs·proofs.Starts.{started-by}
-use Rattle·runs·proofs.cartridge.Cartridge.start.Needs as need
+use Rattle.std.proofs.Common.{refl, ap, ◌∙◌, arith, rules}
+use Rattle.modes.specs.Values.{listed}
+use Rattle.runs.specs.Stands.{Fresh}
+use Rattle.runs.proofs.Starts.{started-by}
+use Rattle.runs.proofs.cartridge.Cartridge.start.Goals as goal
 
-pub returns : need.returns
+pub returns : goal.returns
 returns g c =
-    let mach = g .E·Engine .machine in
-    let was = c .args .self .engine in
-    let fresh : Fresh _ (c .args .order) (g .W·Heading .heads) (c .args .self .count) =
-    record { mode = c .mode .ensures .value; way = c .way-of .ensures; before = refl; taken = refl; inside = c .new .ensures; cycles = refl } in
+    let mach = g.E.Engine.machine in
+    let was = c.args.self.engine in
+    let fresh : Fresh _ c.args.order g.W.Heading.heads c.args.self.count =
+    record { mode = c.mode.ensures.value; way = c.way-of.ensures; before = refl; taken = refl; inside = c.new.ensures; cycles = refl } in
     record {
-      started = started-by (mach was) _ (c .args .self .count) (c .args .order) (g .W·Heading .heads) _
-          (omega (arith, g .E·Engine·met .places was)) (g .E·Engine·met .shallow was) (search needs) fresh
-          (c .first-links .ensures ∙ ap listed (c .initial-values .ensures .value));
+      started = started-by (mach was) _ c.args.self.count c.args.order g.W.Heading.heads _
+          (omega (arith, g.met.E.Engine.places was)) (g.met.E.Engine.shallow was) (search rules) fresh
+          (c.first-links.ensures ∙ ap listed c.initial-values.ensures.value);
       fresh = fresh;
-      engine = search needs;
+      engine = search rules;
     }

@@ -1,16 +1,13 @@
-use borrow.Author.Needs.{needs}
-use native.Mathlib.Omega.{arith}
-use mathlib.Core.Path.{_≡_}
-use lib.ListN.{length}
-use Rattle·engines.specs.Depths.{greatest-depth}
-use Rattle·runs·proofs.RingPlaces.{first-item, popped-items}
-use Rattle·runs·proofs.ring.Ring.pop.Needs as need
+use Rattle.std.proofs.Common.{◌≡◌, length, arith, rules}
+use Rattle.engines.specs.Depths.{greatest-depth}
+use Rattle.runs.proofs.RingPlaces.{first-item, popped-items}
+use Rattle.runs.proofs.ring.Ring.pop.Goals as goal
 
-pub returns : need.returns
+pub returns : goal.returns
 returns c =
-    let ring = c .args .self .now in
-    let size : length (ring .places) ≡ greatest-depth = search needs in
+    let ring = c.args.self.now in
+    let size : length ring.places ≡ greatest-depth = search rules in
     record {
-      value = first-item (ring .places) greatest-depth (ring .oldest) (ring .count) size (ring .within .0) (ring .within .1) (omega arith);
-      rest = popped-items (ring .places) greatest-depth (ring .oldest) (ring .count) size (ring .within .0) (ring .within .1) (omega arith);
+      value = first-item ring.places greatest-depth ring.oldest ring.count size ring.within.0 ring.within.1 (omega arith);
+      rest = popped-items ring.places greatest-depth ring.oldest ring.count size ring.within.0 ring.within.1 (omega arith);
     }

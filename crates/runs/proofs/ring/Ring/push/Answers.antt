@@ -1,28 +1,25 @@
-use borrow.Author.Needs.{needs}
-use native.Mathlib.Omega.{arith}
-use mathlib.Core.Path.{_≡_, refl, ap, _∙_}
-use lib.ListN.{length}
-use Rattle·std.proofs.shelf.Lists.{length-push}
-use Rattle·engines.specs.Depths.{greatest-depth}
-use Rattle·runs·specs.Rings.{items}
-use Rattle·runs·proofs.RingPlaces.{length-items, pushed-items}
-use Rattle·runs·proofs.ring.Ring.push.Needs as need
+use Rattle.std.proofs.Common.{◌≡◌, length, refl, ap, ◌∙◌, arith, rules}
+use Rattle.std.proofs.lemmas.List.{length_push}
+use Rattle.engines.specs.Depths.{greatest-depth}
+use Rattle.runs.specs.Rings.{items}
+use Rattle.runs.proofs.RingPlaces.{length-items, pushed-items}
+use Rattle.runs.proofs.ring.Ring.push.Goals as goal
 
-pub returns-then-self-lt-GREATEST-DEPTH : need.returns-then-self-lt-GREATEST-DEPTH
+pub returns-then-self-lt-GREATEST-DEPTH : goal.returns-then-self-lt-GREATEST-DEPTH
 returns-then-self-lt-GREATEST-DEPTH c =
-    let ring = c .args .self .now in
-    let size : length (ring .places) ≡ greatest-depth = search needs in
-    let long = length-items (ring .places) greatest-depth (ring .oldest) (ring .count) size (ring .within .0) (ring .within .1) in
-    let after = pushed-items (ring .places) greatest-depth (ring .oldest) (ring .count) (c .args .number) size (ring .within .0) (omega arith) in
+    let ring = c.args.self.now in
+    let size : length ring.places ≡ greatest-depth = search rules in
+    let long = length-items ring.places greatest-depth ring.oldest ring.count size ring.within.0 ring.within.1 in
+    let after = pushed-items ring.places greatest-depth ring.oldest ring.count c.args.number size ring.within.0 (omega arith) in
     record {
       room = λ _. after;
       full = λ l. absurd (omega arith);
-      most = omega (arith, ap length after ∙ length-push (items ring) (c .args .number));
+      most = omega (arith, ap length after ∙ length_push (items ring) c.args.number);
     }
 
-pub returns-else-self-lt-GREATEST-DEPTH : need.returns-else-self-lt-GREATEST-DEPTH
+pub returns-else-self-lt-GREATEST-DEPTH : goal.returns-else-self-lt-GREATEST-DEPTH
 returns-else-self-lt-GREATEST-DEPTH c =
-    let ring = c .args .self .now in
-    let size : length (ring .places) ≡ greatest-depth = search needs in
-    let long = length-items (ring .places) greatest-depth (ring .oldest) (ring .count) size (ring .within .0) (ring .within .1) in
+    let ring = c.args.self.now in
+    let size : length ring.places ≡ greatest-depth = search rules in
+    let long = length-items ring.places greatest-depth ring.oldest ring.count size ring.within.0 ring.within.1 in
     record { room = λ l. absurd (omega arith); full = λ _. refl; most = omega arith }

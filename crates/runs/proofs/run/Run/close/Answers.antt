@@ -1,18 +1,18 @@
-use mathlib.Core.Path.{refl, sym, subst}
-use Rattle·calls.specs.Theorem.{Exact}
-use Rattle·calls.proofs.Whole.{accounts-due, theorem}
-use Rattle·runs·proofs.Numbers.{told-due}
-use Rattle·runs·proofs.run.Run.close.Needs as need
+use Rattle.std.proofs.Common.{sym, refl, subst}
+use Rattle.calls.specs.Theorem.{Exact}
+use Rattle.calls.proofs.Whole.{accounts-due, theorem}
+use Rattle.runs.proofs.Numbers.{told-due}
+use Rattle.runs.proofs.run.Run.close.Goals as goal
 
-pub returns : need.returns
+pub returns : goal.returns
 returns g c =
-    let mach = g .E·Engine .machine (c .args .self .engine) in
-    let f = c .args .self .frame in
+    let mach = g.E.Engine.machine c.args.self.engine in
+    let f = c.args.self.frame in
     record {
       closed = λ calls stands.
           let told = told-due mach f calls stands in (
-            record { follows = (told, stands .follows); tells = refl },
-            subst (Exact (mach .depth) calls) (sym told) (accounts-due (mach .forward) (mach .inverse) (mach .depth) calls (stands .follows)),
+            record { follows = (told, stands.follows); tells = refl },
+            subst (Exact mach.depth calls) (sym told) (accounts-due mach.forward mach.inverse mach.depth calls stands.follows),
           );
       theorem = theorem;
       engine = refl;

@@ -1,55 +1,51 @@
-use native.Mathlib.Omega.{arith}
-use mathlib.Core.Path.{_≡_, refl, sym, _∙_}
-use mathlib.Core.List.{[]}
-use Prim.Native.Nat.{_≤_, _<_}
-use lib.ListN.{length}
-use Rattle·calls.specs.Calls.{gave}
-use Rattle·runs·specs.Rings.{items}
-use Rattle·runs·proofs.DrainReplies.{drain-refuses, drain-accepts, drain-refused, drain-none, drain-some}
-use Rattle·runs·proofs.run.Run.drain.Needs as need
+use Rattle.std.proofs.Common.{◌≡◌, ◌<◌, ◌≤◌, [], length, sym, refl, ◌∙◌, arith}
+use Rattle.calls.specs.Calls.{gave}
+use Rattle.runs.specs.Rings.{items}
+use Rattle.runs.proofs.DrainReplies.{drain-refuses, drain-accepts, drain-refused, drain-none, drain-some}
+use Rattle.runs.proofs.run.Run.drain.Goals as goal
 
-pub returns-then-out-inside : need.returns-then-out-inside
+pub returns-then-out-inside : goal.returns-then-out-inside
 returns-then-out-inside g c =
-    let run = c .args .self .now in
-    let xs = c .args .out .now in
-    let is = c .len-inside .ensures .value in
+    let run = c.args.self.now in
+    let xs = c.args.out.now in
+    let is = c.len-inside.ensures.value in
     record {
-      answered = drain-refused (g .E·Engine .machine (run .engine)) (run .frame) xs (c .len-inside .result) is (c .if-out-inside .taken);
-      refusal = sym (drain-refuses (length (items (run .frame .pending))) (length xs) (c .len-inside .result) is (c .if-out-inside .taken) (gave []));
+      answered = drain-refused (g.E.Engine.machine run.engine) run.frame xs c.len-inside.result is c.if-out-inside.true;
+      refusal = sym (drain-refuses (length (items run.frame.pending)) (length xs) c.len-inside.result is c.if-out-inside.true (gave []));
       within = tt;
       unaltered = (refl, refl);
       idle = λ _. (refl, refl);
       same = ((refl, refl, refl), (refl, refl, refl));
     }
 
-pub returns-then-inside-eq0 : need.returns-then-inside-eq0
+pub returns-then-inside-eq0 : goal.returns-then-inside-eq0
 returns-then-inside-eq0 g c =
-    let run = c .args .self .now in
-    let xs = c .args .out .now in
-    let none : length (items (run .frame .pending)) ≡ 0 = sym (c .len-inside .ensures .value) ∙ c .if-inside-eq0 .taken in
+    let run = c.args.self.now in
+    let xs = c.args.out.now in
+    let none : length (items run.frame.pending) ≡ 0 = sym c.len-inside.ensures.value ∙ c.if-inside-eq0.true in
     record {
-      answered = drain-none (g .E·Engine .machine (run .engine)) (run .frame) xs none;
-      refusal = sym (drain-accepts (length (items (run .frame .pending))) (length xs) (omega arith) (gave []));
+      answered = drain-none (g.E.Engine.machine run.engine) run.frame xs none;
+      refusal = sym (drain-accepts (length (items run.frame.pending)) (length xs) (omega arith) (gave []));
       within = omega arith;
       unaltered = tt;
       idle = λ _. (refl, refl);
       same = ((refl, refl, refl), (refl, refl, refl));
     }
 
-pub returns : need.returns
+pub returns : goal.returns
 returns g c =
-    let mach = g .E·Engine .machine in
-    let run = c .args .self .now in
-    let xs = c .args .out .now in
-    let p = c .empty in
-    let large : length (items (run .frame .pending)) ≤ length xs = omega (arith, c .len-inside .ensures .value, c .if-out-inside .left) in
-    let some : 0 < length (items (run .frame .pending)) = omega (arith, c .len-inside .ensures .value, c .if-inside-eq0 .left) in
+    let mach = g.E.Engine.machine in
+    let run = c.args.self.now in
+    let xs = c.args.out.now in
+    let p = c.empty in
+    let large : length (items run.frame.pending) ≤ length xs = omega (arith, c.len-inside.ensures.value, c.if-out-inside.false) in
+    let some : 0 < length (items run.frame.pending) = omega (arith, c.len-inside.ensures.value, c.if-inside-eq0.false) in
     record {
-      answered = drain-some (mach (run .engine)) (mach (p .last .self .engine)) (run .frame) (p .last .self .frame) xs (p .last .out) (p .result)
-          (p .ensures .onward .engine) some large (p .ensures .emptied);
-      refusal = sym (drain-accepts (length (items (run .frame .pending))) (length xs) large (gave []));
-      within = omega (arith, p .ensures .onward .room);
+      answered = drain-some (mach run.engine) (mach p.new.self.engine) run.frame p.new.self.frame xs p.new.out p.result
+          p.ensures.onward.engine some large p.ensures.emptied;
+      refusal = sym (drain-accepts (length (items run.frame.pending)) (length xs) large (gave []));
+      within = omega (arith, p.ensures.onward.room);
       unaltered = tt;
       idle = λ none. absurd (omega arith);
-      same = (p .ensures .onward .engine, p .ensures .onward .kept);
+      same = (p.ensures.onward.engine, p.ensures.onward.kept);
     }

@@ -1,11 +1,11 @@
-use mathlib.Core.Path.{_∙_, sym}
-use Rattle·runs·proofs.Numbers.{inside-told, in-row-told}
-use Rattle·runs·proofs.run.Run.units_inside.Needs as need
+use Rattle.std.proofs.Common.{sym, ◌∙◌}
+use Rattle.runs.proofs.Numbers.{inside-told, in-row-told}
+use Rattle.runs.proofs.run.Run.units_inside.Goals as goal
 
-pub returns : need.returns
+pub returns : goal.returns
 returns g c =
-    let is = c .len .ensures .value in
-    let f = c .args .self .now .frame in
+    let is = c.len.ensures.value in
+    let f = c.args.self.now.frame in
     record {
       value = is;
       due = λ calls stands. is ∙ inside-told _ f calls stands;

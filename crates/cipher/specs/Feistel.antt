@@ -1,21 +1,21 @@
 -- The same rounds with the round keys backwards undo a block's enciphering.
-use mathlib.Core.Path.{_≡_, refl, sym, ap, ap₂, _∙_}
-use mathlib.Core.List.{List, [], _∷_, _++_, reverse, reverse-cons, reverse-reverse}
-use Prim.Native.Nat.{ℕ, _<_, _^_}
-use native.Mathlib.Nat.{mod-lt}
-use lib.Arith.{digits-lt}
-use lib.Bits.{bitXor, xor-self, xor-assoc, xor-zero-r, xor-lt}
-use lib.Pow.{pow-pos, split, high, low, shr-lt}
-use Rattle·cipher·specs.Undoing.{Undo}
-use Rattle·cipher·specs.Tables.{ip-table, ip-inverse-table, p-table}
-use Rattle·cipher·specs.Rounds.{ip, ip-inverse, expanded, substituted, permuted, f, round, rounds, halves, crossed, under}
-use Rattle·cipher·proofs.Selects.{select-lt, select-undone}
+use Rattle.std.specs.Prelude.{◌≡◌, ℕ, ◌^◌, ◌<◌, List, [], ◌∷◌, ◌++◌, reverse, bit_xor, refl}
+use Rattle.std.proofs.Common.{sym, ap, ap₂, ◌∙◌, mod-lt, pow_pos, shr_lt}
+use mathlib.Core.List.{reverse-cons, reverse-reverse}
+use Rattle.std.proofs.Math.Arith.{digits_lt}
+use Rattle.std.specs.Int.Bits.{xor_self, xor_assoc, xor_zero_r}
+use Rattle.std.proofs.lemmas.Nat.{xor_lt}
+use Rattle.std.proofs.Math.Pow.{split, high, low}
+use Rattle.cipher.specs.Undoing.{Undo}
+use Rattle.cipher.specs.Tables.{ip-table, ip-inverse-table, p-table}
+use Rattle.cipher.specs.Rounds.{ip, ip-inverse, expanded, substituted, permuted, f, round, rounds, halves, crossed, under}
+use Rattle.cipher.specs.Selects.{select-lt, select-undone}
 
 abbrev swap : ℕ × ℕ → ℕ × ℕ
 swap (l, r) = (r, l)
 
-xor-twice : (a b : ℕ) → bitXor (bitXor a b) b ≡ a
-xor-twice a b = xor-assoc a b b ∙ ap (bitXor a) (xor-self b) ∙ xor-zero-r a
+xor-twice : (a b : ℕ) → bit_xor (bit_xor a b) b ≡ a
+xor-twice a b = xor_assoc a b b ∙ ap (bit_xor a) (xor_self b) ∙ xor_zero_r a
 
 -- a round undoes itself, with the halves swapped
 round-undone : (k : ℕ) (p : ℕ × ℕ) → round k (swap (round k p)) ≡ swap p
@@ -41,16 +41,16 @@ rounds-undone (k ∷ ks) p =
 abbrev Halves : ℕ × ℕ → Type 0
 Halves (l, r) = (l < 2 ^ 32) × (r < 2 ^ 32)
 
-f-lt : (r k : ℕ) → f r k < 2 ^ 32
+f_lt : (r k : ℕ) → f r k < 2 ^ 32
 unfolding f permuted
-f-lt r k = select-lt 32 p-table (substituted 8 (bitXor (expanded r) k))
+f_lt r k = select-lt 32 p-table (substituted 8 (bit_xor (expanded r) k))
 
 rounds-halves : (ks : List ℕ) (p : ℕ × ℕ) → Halves p → Halves (rounds ks p)
 rounds-halves [] p h = h
-rounds-halves (k ∷ ks) (l, r) (hl, hr) = rounds-halves ks (round k (l, r)) (hr, xor-lt 32 l (f r k) hl (f-lt r k))
+rounds-halves (k ∷ ks) (l, r) (hl, hr) = rounds-halves ks (round k (l, r)) (hr, xor_lt 32 l (f r k) hl (f_lt r k))
 
 crossed-lt : (p : ℕ × ℕ) → Halves p → crossed p < 2 ^ 64
-crossed-lt (l, r) (hl, hr) = digits-lt hr hl
+crossed-lt (l, r) (hl, hr) = digits_lt hr hl
 
 halves-crossed : (p : ℕ × ℕ) → Halves p → halves (crossed p) ≡ swap p
 halves-crossed (l, r) (hl, hr) = ap₂ (λ (x y : ℕ). (x, y)) (high r 32 hl) (low r 32 hl)
@@ -71,12 +71,12 @@ under-lt : (ks : List ℕ) (b : ℕ) → under ks b < 2 ^ 64
 unfolding under ip-inverse
 under-lt ks b = select-lt 64 ip-inverse-table (crossed (rounds ks (halves (ip b))))
 
-under-back : (ks : List ℕ) (b : ℕ) → b < 2 ^ 64 → under (reverse ks) (under ks b) ≡ b
+under_back : (ks : List ℕ) (b : ℕ) → b < 2 ^ 64 → under (reverse ks) (under ks b) ≡ b
 unfolding under
-under-back ks b h =
+under_back ks b h =
     let p : ℕ × ℕ = halves (ip b) in
     let q : ℕ × ℕ = rounds ks p in
-    let hq : Halves q = rounds-halves ks p (shr-lt 32 32 (ip-lt b), mod-lt (ip b) (pow-pos 32)) in
+    let hq : Halves q = rounds-halves ks p (shr_lt 32 32 (ip-lt b), mod-lt (ip b) (pow_pos 32)) in
     ap (λ (x : ℕ). ip-inverse (crossed (rounds (reverse ks) (halves x)))) (ip-ip-inverse (crossed q) (crossed-lt q hq))
     ∙ ap (λ x. ip-inverse (crossed (rounds (reverse ks) x))) (halves-crossed q hq)
     ∙ ap (λ x. ip-inverse (crossed x)) (rounds-undone ks p)
@@ -87,8 +87,8 @@ under-back ks b h =
 pub under-undo : (ks : List ℕ) → Undo (under ks) (under (reverse ks))
 under-undo ks =
     record {
-      back = under-back ks;
-      forth = λ b h. ap (λ l. under l (under (reverse ks) b)) (sym (reverse-reverse ks)) ∙ under-back (reverse ks) b h;
+      back = under_back ks;
+      forth = λ b h. ap (λ l. under l (under (reverse ks) b)) (sym (reverse-reverse ks)) ∙ under_back (reverse ks) b h;
       forward-is-block = λ b h. under-lt ks b;
       inverse-is-block = λ b h. under-lt (reverse ks) b;
     }
