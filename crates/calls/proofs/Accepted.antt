@@ -3,16 +3,16 @@ use Rattle.std.proofs.Common.{◌≡◌, ℕ, zero, suc, ◌+◌, ◌^◌, ◌�
 use Rattle.std.proofs.lemmas.Bool.{ltb-true, ltb-false}
 use Rattle.refusals.specs.declared.Refusal.{Refusal}
 use Rattle.modes.specs.Values.{Units}
-use Rattle.calls.specs.Limits.{unit-limit}
+use Rattle.calls.specs.Limits.{unit_limit}
 use Rattle.calls.specs.Calls.{gave, refused}
-use Rattle.calls.specs.Due.{first-wide, refusal-to-feed, refusal-to-drain}
+use Rattle.calls.specs.Due.{first_wide, refusal_to_feed, refusal_to_drain}
 
 -- units among which no wide one is found
-pub none-wide : (w i : ℕ) (us : List ℕ) → first-wide w i us ≡ None → Units w us
-none-wide w i [] e = λ k l. absurd (omega arith)
-none-wide w i (u ∷ us) e = narrow (ltb u (2 ^ w)) refl e (none-wide w (i + 1) us)
+pub none_wide : (w i : ℕ) (us : List ℕ) → first_wide w i us ≡ None → Units w us
+none_wide w i [] e = λ k l. absurd (omega arith)
+none_wide w i (u ∷ us) e = narrow (ltb u (2 ^ w)) refl e (none_wide w (i + 1) us)
   where
-    narrow : (t : Bool) → ltb u (2 ^ w) ≡ t → cond t (first-wide w (i + 1) us) (Some i) ≡ None → (first-wide w (i + 1) us ≡ None → Units w us)
+    narrow : (t : Bool) → ltb u (2 ^ w) ≡ t → cond t (first_wide w (i + 1) us) (Some i) ≡ None → (first_wide w (i + 1) us ≡ None → Units w us)
         → Units w (u ∷ us)
     narrow true is e rest zero l = ltb-true u (2 ^ w) is
     narrow true is e rest (suc k) l = rest e k (omega arith)
@@ -21,14 +21,14 @@ none-wide w i (u ∷ us) e = narrow (ltb u (2 ^ w)) refl e (none-wide w (i + 1) 
 -- a feed that was not refused
 pub record Accepted (width count : ℕ) (us hs due : List ℕ) : Type 0 where
   pub narrow : Units width us
-  pub few : count + length us ≤ unit-limit
+  pub few : count + length us ≤ unit_limit
   pub gives : hs ≡ due
 
-pub feed-accepted : (in-engine width count : ℕ) (us : List ℕ) (room : ℕ) (hs due : List ℕ)
-    → gave hs ≡ refusal-to-feed in-engine width count us room (gave due) → Accepted width count us hs due
-feed-accepted in-engine width count us room hs due e =
-    let p = passes (ltb room (in-engine + length us)) (first-wide width 0 us) (ltb unit-limit (count + length us)) _ _ _ e in
-    record { narrow = none-wide width 0 us p.0; few = ltb-false _ _ p.1; gives = p.2 }
+pub feed_accepted : (in-engine width count : ℕ) (us : List ℕ) (room : ℕ) (hs due : List ℕ)
+    → gave hs ≡ refusal_to_feed in-engine width count us room (gave due) → Accepted width count us hs due
+feed_accepted in-engine width count us room hs due e =
+    let p = passes (ltb room (in-engine + length us)) (first_wide width 0 us) (ltb unit_limit (count + length us)) _ _ _ e in
+    record { narrow = none_wide width 0 us p.0; few = ltb-false _ _ p.1; gives = p.2 }
   where
     passes : (small : Bool) (wide : Option ℕ) (many : Bool) (a b : Refusal) (at : ℕ → Refusal)
         → gave hs ≡ cond small (refused a) (elim wide [ Some i ↦ refused (at i) | None ↦ cond many (refused b) (gave due) ])
@@ -38,8 +38,8 @@ feed-accepted in-engine width count us room hs due e =
     passes false None true a b at e = let z : ◌≡◌ {A = ℕ} 0 1 = cc in absurd (omega arith)
     passes false None false a b at e = (refl, refl, cc)
 
-pub drain-gives : (in-engine room : ℕ) (hs due : List ℕ) → gave hs ≡ refusal-to-drain in-engine room (gave due) → hs ≡ due
-drain-gives in-engine room hs due e = passes (ltb room in-engine) _ e
+pub drain_gives : (in-engine room : ℕ) (hs due : List ℕ) → gave hs ≡ refusal_to_drain in-engine room (gave due) → hs ≡ due
+drain_gives in-engine room hs due e = passes (ltb room in-engine) _ e
   where
     passes : (small : Bool) (a : Refusal) → gave hs ≡ cond small (refused a) (gave due) → hs ≡ due
     passes true a e = let z : ◌≡◌ {A = ℕ} 0 1 = cc in absurd (omega arith)

@@ -29,10 +29,10 @@ pub data Calls : Bool → Type 0 where
 
 -- ---- the open run
 
-abbrev pub order-of : Calls true → Order
-order-of (started o way calls) = o
-order-of (fed us room a calls) = order-of calls
-order-of (drained room a calls) = order-of calls
+abbrev pub order_of : Calls true → Order
+order_of (started o way calls) = o
+order_of (fed us room a calls) = order_of calls
+order_of (drained room a calls) = order_of calls
 
 abbrev pub way_of : Calls true → Way
 way_of (started o way calls) = way
@@ -72,11 +72,11 @@ ended (drained room (gave (h ∷ hs)) calls) = stretch calls ∷ ended calls
 ended (drained room (refused e) calls) = ended calls
 
 -- what the cartridge told last, and so what its count was as the run started
-abbrev pub count-told : Calls false → ℕ
-count-told new = 0
-count-told (closed told calls) = told.count
+abbrev pub count_told : Calls false → ℕ
+count_told new = 0
+count_told (closed told calls) = told.count
 
-abbrev pub count-before : Calls true → ℕ
-count-before (started o way calls) = count-told calls
-count-before (fed us room a calls) = count-before calls
-count-before (drained room a calls) = count-before calls
+abbrev pub count_before : Calls true → ℕ
+count_before (started o way calls) = count_told calls
+count_before (fed us room a calls) = count_before calls
+count_before (drained room a calls) = count_before calls

@@ -1,5 +1,5 @@
 -- The most units that one cartridge takes.
 use Rattle.std.specs.Prelude.{ℕ}
 
-abbrev pub unit-limit : ℕ
-unit-limit = 1048576
+abbrev pub unit_limit : ℕ
+unit_limit = 1048576

@@ -2,7 +2,7 @@
 use Rattle.std.specs.Prelude.{◌≡◌, ℕ, ◌+◌, Bool, true, ◌⊎◌, List, [], ◌∷◌, length, drop}
 use Rattle.modes.specs.declared.way.Way.{Way}
 use Rattle.modes.specs.declared.order.Order.{Order}
-use Rattle.calls.specs.Calls.{Calls, new, started, fed, drained, closed, order-of, way_of, taken, handed_out}
+use Rattle.calls.specs.Calls.{Calls, new, started, fed, drained, closed, order_of, way_of, taken, handed_out}
 
 -- a run from its start to its closing or, while it is open, to now: what it was started with, the units taken and those handed out
 pub record Run : Type 0 where
@@ -13,7 +13,7 @@ pub record Run : Type 0 where
 
 -- the open run
 abbrev pub run_of : Calls true → Run
-run_of calls = record { order = order-of calls; way = way_of calls; taken = taken calls; handed_out = handed_out calls }
+run_of calls = record { order = order_of calls; way = way_of calls; taken = taken calls; handed_out = handed_out calls }
 
 -- all runs, the newest first
 abbrev pub runs_of : {b : Bool} → Calls b → List Run
@@ -28,6 +28,6 @@ Among run [] = ⊥
 Among run (r ∷ rs) = (run ≡ r) ⊎ Among run rs
 
 -- how many units some runs took
-abbrev pub all-taken : List Run → ℕ
-all-taken [] = 0
-all-taken (r ∷ rs) = all-taken rs + length r.taken
+abbrev pub all_taken : List Run → ℕ
+all_taken [] = 0
+all_taken (r ∷ rs) = all_taken rs + length r.taken

@@ -17,6 +17,6 @@ abbrev pub inside : ℕ → Option ℕ → ℕ → ℕ
 inside D δ s = coming D δ (passed D δ s) s
 
 -- the formula: the cycles of some stretches that a drain ended, and of one that is not ended
-abbrev pub cycles-of : ℕ → Option ℕ → List ℕ → ℕ → ℕ
-cycles-of D δ [] s = cost D δ s
-cycles-of D δ (e ∷ es) s = cycles-of D δ es 0 + drained D δ e + cost D δ s
+abbrev pub cycles_of : ℕ → Option ℕ → List ℕ → ℕ → ℕ
+cycles_of D δ [] s = cost D δ s
+cycles_of D δ (e ∷ es) s = cycles_of D δ es 0 + drained D δ e + cost D δ s

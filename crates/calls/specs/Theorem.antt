@@ -3,14 +3,14 @@
 use Rattle.std.specs.Prelude.{◌≡◌, ℕ, ◌+◌, ◌-◌, ◌<◌, ◌≤◌, Bool, true, List, length, take, Some, ◌≢◌, bit_xor, slice_index}
 use Rattle.modes.specs.declared.way.Way.TheVariants.{Enciphering, Deciphering}
 use Rattle.modes.specs.declared.mode.Mode.{Mode}
-use Rattle.modes.specs.Table.{row, memoryOf, reachOf}
+use Rattle.modes.specs.Table.{row, memory_of, reach_of}
 use Rattle.modes.specs.Values.{listed}
-use Rattle.modes.specs.Laws.{Ends, In-reach, Struck, Reached}
-use Rattle.calls.specs.Limits.{unit-limit}
-use Rattle.calls.specs.Stretches.{cycles-of}
+use Rattle.modes.specs.Laws.{Ends, InReach, Struck, Reached}
+use Rattle.calls.specs.Limits.{unit_limit}
+use Rattle.calls.specs.Stretches.{cycles_of}
 use Rattle.calls.specs.Calls.{Told, Calls, closed, taken, handed_out, stretch, ended}
-use Rattle.calls.specs.Due.{distance-in, Follows}
-use Rattle.calls.specs.Runs.{Run, runs_of, Among, all-taken}
+use Rattle.calls.specs.Due.{distance_in, Follows}
+use Rattle.calls.specs.Runs.{Run, runs_of, Among, all_taken}
 
 -- a sending run of one list and a receiving run of another list, or of the same, in one mode
 pub record Pair (F G F' G' : ℕ → ℕ) (sender receiver : Run) : Type 0 where
@@ -19,17 +19,17 @@ pub record Pair (F G F' G' : ℕ → ℕ) (sender receiver : Run) : Type 0 where
   pub depth' : ℕ
   pub deep : 1 ≤ depth
   pub deep' : 1 ≤ depth'
-  pub in-run : Bool
-  pub in-run' : Bool
-  pub calls : Calls in-run
-  pub calls' : Calls in-run'
+  pub in_run : Bool
+  pub in_run' : Bool
+  pub calls : Calls in_run
+  pub calls' : Calls in_run'
   pub follows : Follows F G depth calls
   pub follows' : Follows F' G' depth' calls'
   pub sends : Among sender (runs_of calls)
   pub receives : Among receiver (runs_of calls')
   pub enciphers : sender.way ≡ Enciphering
   pub deciphers : receiver.way ≡ Deciphering
-  pub one-mode : receiver.order.mode ≡ sender.order.mode
+  pub one_mode : receiver.order.mode ≡ sender.order.mode
 
 -- both have the same initial values
 abbrev pub Agree : Run → Run → Type 0
@@ -45,16 +45,16 @@ Restored sender receiver =
 -- the sender took at place i, whatever the initial values
 abbrev pub Recovered : Run → Run → Type 0
 Recovered sender receiver =
-    (r : ℕ) → memoryOf sender.order.mode ≡ Some r
+    (r : ℕ) → memory_of sender.order.mode ≡ Some r
     → (i j : ℕ) → r ≤ i → i < length sender.handed_out → r ≤ j → j < length receiver.handed_out
     → ((k : ℕ) → k ≤ r → slice_index receiver.taken (j - k) ≡ slice_index sender.handed_out (i - k))
     → slice_index receiver.handed_out j ≡ slice_index sender.taken i
 
 -- plain units qs handed out in place of ps, where the arriving unit of place d was altered by e; only units handed out are judged
 pub record Harmed (m : Mode) (ps qs : List ℕ) (d e : ℕ) : Type 0 where
-  pub right : (i : ℕ) → i < length qs → (i ≢ d) → (In-reach (reachOf m) d i → ⊥) → slice_index qs i ≡ slice_index ps i
+  pub right : (i : ℕ) → i < length qs → (i ≢ d) → (InReach (reach_of m) d i → ⊥) → slice_index qs i ≡ slice_index ps i
   pub struck : d < length qs → Struck (row m).family (slice_index ps d) (slice_index qs d) e
-  pub reached : (i : ℕ) → i < length qs → In-reach (reachOf m) d i → Reached (row m).family (row m).width (slice_index ps i) (slice_index qs i) e
+  pub reached : (i : ℕ) → i < length qs → InReach (reach_of m) d i → Reached (row m).family (row m).width (slice_index ps i) (slice_index qs i) e
 
 -- damage: where the arriving units are the first sent ones with exactly one altered, only it and its reach can be wrong, in just these bits
 abbrev pub Contained : Run → Run → Type 0
@@ -71,9 +71,9 @@ pub record Exact (D : ℕ) (calls : Calls true) (told : Told) : Type 0 where
   pub handed_out : told.handed_out ≡ length (handed_out calls)
   pub inside : told.inside ≡ told.in_row
   pub balance : told.taken ≡ told.handed_out + told.in_row
-  pub cycles : told.cycles ≡ cycles-of D (distance-in calls) (ended calls) (stretch calls)
-  pub count : told.count ≡ all-taken (runs_of calls)
-  pub limit : told.count ≤ unit-limit
+  pub cycles : told.cycles ≡ cycles_of D (distance_in calls) (ended calls) (stretch calls)
+  pub count : told.count ≡ all_taken (runs_of calls)
+  pub limit : told.count ≤ unit_limit
 
 pub record Theorem : Type 0 where
   pub restoring : (F G F' G' : ℕ → ℕ) (sender receiver : Run) → Pair F G F' G' sender receiver → Restored sender receiver

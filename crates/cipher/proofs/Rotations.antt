@@ -15,27 +15,27 @@ kept s c h =
     ∙ add-zero (c % 2 ^ (28 - s) * 2 ^ s)
 
 -- the bits that go round
-carried-lt : (s c : ℕ) → s ≤ 28 → c < 2 ^ 28 → c / 2 ^ (28 - s) < 2 ^ s
-carried-lt s c h small =
+carried_lt : (s c : ℕ) → s ≤ 28 → c < 2 ^ 28 → c / 2 ^ (28 - s) < 2 ^ s
+carried_lt s c h small =
     let e : 28 ≡ s + (28 - s) = omega arith in
     shr_lt s (28 - s) (subst (λ (k : ℕ). c < 2 ^ k) e small)
 
-pub rotated-lt : (s c : ℕ) → s ≤ 28 → c < 2 ^ 28 → rotated s c < 2 ^ 28
+pub rotated_lt : (s c : ℕ) → s ≤ 28 → c < 2 ^ 28 → rotated s c < 2 ^ 28
 unfolding rotated
-rotated-lt s c h small =
+rotated_lt s c h small =
     let e : 28 - s + s ≡ 28 = omega arith in
-    let lt : c % 2 ^ (28 - s) * 2 ^ s + c / 2 ^ (28 - s) < 2 ^ (28 - s) * 2 ^ s = digits_lt (mod-lt c (pow_pos (28 - s))) (carried-lt s c h small) in
+    let lt : c % 2 ^ (28 - s) * 2 ^ s + c / 2 ^ (28 - s) < 2 ^ (28 - s) * 2 ^ s = digits_lt (mod-lt c (pow_pos (28 - s))) (carried_lt s c h small) in
     subst (λ (x : ℕ). x + c / 2 ^ (28 - s) < 2 ^ 28) (sym (kept s c h))
     (subst (λ (m : ℕ). c % 2 ^ (28 - s) * 2 ^ s + c / 2 ^ (28 - s) < m) (sym (pow-add 2 (28 - s) s) ∙ ap (λ (k : ℕ). 2 ^ k) e) lt)
 
 -- in machine words of 32 bits
-pub rotated-is : (s c : ℕ) → s ≤ 4 → c < 2 ^ 28 → bit_or (bit_and (c * 2 ^ s % 2 ^ 32) 0xfff_ffff) (c / 2 ^ (28 - s)) ≡ rotated s c
+pub rotated_is : (s c : ℕ) → s ≤ 4 → c < 2 ^ 28 → bit_or (bit_and (c * 2 ^ s % 2 ^ 32) 0xfff_ffff) (c / 2 ^ (28 - s)) ≡ rotated s c
 unfolding rotated
-rotated-is s c h small =
+rotated_is s c h small =
     let g : s ≤ 28 = omega arith in
     let room : 28 + s ≤ 32 = omega arith in
     let whole : bit_and (c * 2 ^ s % 2 ^ 32) 0xfff_ffff ≡ c * 2 ^ s % 2 ^ 28 =
     ap (λ (x : ℕ). bit_and x 0xfff_ffff) (shl_exact 28 s 32 small room) ∙ and_mask (c * 2 ^ s) 28 in
     ap (λ (x : ℕ). bit_or x (c / 2 ^ (28 - s))) (whole ∙ kept s c g)
-    ∙ or_shifted (c % 2 ^ (28 - s)) s (c / 2 ^ (28 - s)) (carried-lt s c g small)
+    ∙ or_shifted (c % 2 ^ (28 - s)) s (c / 2 ^ (28 - s)) (carried_lt s c g small)
     ∙ ap (λ (x : ℕ). x + c / 2 ^ (28 - s)) (sym (kept s c g))

@@ -2,8 +2,8 @@
 use Rattle.std.specs.Prelude.{ℕ, List, [], ◌∷◌}
 
 -- The initial permutation IP.
-abbrev pub ip-table : List ℕ
-ip-table =
+abbrev pub ip_table : List ℕ
+ip_table =
     58 ∷ 50 ∷ 42 ∷ 34 ∷ 26 ∷ 18 ∷ 10 ∷ 2 ∷
     60 ∷ 52 ∷ 44 ∷ 36 ∷ 28 ∷ 20 ∷ 12 ∷ 4 ∷
     62 ∷ 54 ∷ 46 ∷ 38 ∷ 30 ∷ 22 ∷ 14 ∷ 6 ∷
@@ -14,8 +14,8 @@ ip-table =
     63 ∷ 55 ∷ 47 ∷ 39 ∷ 31 ∷ 23 ∷ 15 ∷ 7 ∷ []
 
 -- Its inverse.
-abbrev pub ip-inverse-table : List ℕ
-ip-inverse-table =
+abbrev pub ip_inverse_table : List ℕ
+ip_inverse_table =
     40 ∷ 8 ∷ 48 ∷ 16 ∷ 56 ∷ 24 ∷ 64 ∷ 32 ∷
     39 ∷ 7 ∷ 47 ∷ 15 ∷ 55 ∷ 23 ∷ 63 ∷ 31 ∷
     38 ∷ 6 ∷ 46 ∷ 14 ∷ 54 ∷ 22 ∷ 62 ∷ 30 ∷
@@ -26,8 +26,8 @@ ip-inverse-table =
     33 ∷ 1 ∷ 41 ∷ 9 ∷ 49 ∷ 17 ∷ 57 ∷ 25 ∷ []
 
 -- The bit selection table E: eight groups of six from 32 bits.
-abbrev pub e-table : List ℕ
-e-table =
+abbrev pub e_table : List ℕ
+e_table =
     32 ∷ 1 ∷ 2 ∷ 3 ∷ 4 ∷ 5 ∷
     4 ∷ 5 ∷ 6 ∷ 7 ∷ 8 ∷ 9 ∷
     8 ∷ 9 ∷ 10 ∷ 11 ∷ 12 ∷ 13 ∷
@@ -38,8 +38,8 @@ e-table =
     28 ∷ 29 ∷ 30 ∷ 31 ∷ 32 ∷ 1 ∷ []
 
 -- The eight S boxes, box by box: four rows of sixteen each.
-abbrev pub s-table : List ℕ
-s-table =
+abbrev pub s_table : List ℕ
+s_table =
     14 ∷ 4 ∷ 13 ∷ 1 ∷ 2 ∷ 15 ∷ 11 ∷ 8 ∷ 3 ∷ 10 ∷ 6 ∷ 12 ∷ 5 ∷ 9 ∷ 0 ∷ 7 ∷
     0 ∷ 15 ∷ 7 ∷ 4 ∷ 14 ∷ 2 ∷ 13 ∷ 1 ∷ 10 ∷ 6 ∷ 12 ∷ 11 ∷ 9 ∷ 5 ∷ 3 ∷ 8 ∷
     4 ∷ 1 ∷ 14 ∷ 8 ∷ 13 ∷ 6 ∷ 2 ∷ 11 ∷ 15 ∷ 12 ∷ 9 ∷ 7 ∷ 3 ∷ 10 ∷ 5 ∷ 0 ∷
@@ -74,8 +74,8 @@ s-table =
     2 ∷ 1 ∷ 14 ∷ 7 ∷ 4 ∷ 10 ∷ 8 ∷ 13 ∷ 15 ∷ 12 ∷ 9 ∷ 0 ∷ 3 ∷ 5 ∷ 6 ∷ 11 ∷ []
 
 -- The permutation P.
-abbrev pub p-table : List ℕ
-p-table =
+abbrev pub p_table : List ℕ
+p_table =
     16 ∷ 7 ∷ 20 ∷ 21 ∷
     29 ∷ 12 ∷ 28 ∷ 17 ∷
     1 ∷ 15 ∷ 23 ∷ 26 ∷
@@ -86,8 +86,8 @@ p-table =
     22 ∷ 11 ∷ 4 ∷ 25 ∷ []
 
 -- Permuted choice 1: C and then D, 28 bits each.
-abbrev pub pc1-table : List ℕ
-pc1-table =
+abbrev pub pc1_table : List ℕ
+pc1_table =
     57 ∷ 49 ∷ 41 ∷ 33 ∷ 25 ∷ 17 ∷ 9 ∷
     1 ∷ 58 ∷ 50 ∷ 42 ∷ 34 ∷ 26 ∷ 18 ∷
     10 ∷ 2 ∷ 59 ∷ 51 ∷ 43 ∷ 35 ∷ 27 ∷
@@ -98,13 +98,13 @@ pc1-table =
     21 ∷ 13 ∷ 5 ∷ 28 ∷ 20 ∷ 12 ∷ 4 ∷ []
 
 -- The left rotations before each of the sixteen round keys.
-abbrev pub rotation-table : List ℕ
-rotation-table =
+abbrev pub rotation_table : List ℕ
+rotation_table =
     1 ∷ 1 ∷ 2 ∷ 2 ∷ 2 ∷ 2 ∷ 2 ∷ 2 ∷ 1 ∷ 2 ∷ 2 ∷ 2 ∷ 2 ∷ 2 ∷ 2 ∷ 1 ∷ []
 
 -- Permuted choice 2: 48 of the 56 bits of C D.
-abbrev pub pc2-table : List ℕ
-pc2-table =
+abbrev pub pc2_table : List ℕ
+pc2_table =
     14 ∷ 17 ∷ 11 ∷ 24 ∷ 1 ∷ 5 ∷
     3 ∷ 28 ∷ 15 ∷ 6 ∷ 21 ∷ 10 ∷
     23 ∷ 19 ∷ 12 ∷ 4 ∷ 26 ∷ 8 ∷

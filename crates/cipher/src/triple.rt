@@ -1,7 +1,7 @@
 //! Three ciphers in a row, the middle one inverse.
 ghost use Rattle.std.specs.Prelude.{◌≡◌};
 ghost use Rattle.cipher.specs.Triples.{in_row};
-ghost use Rattle.cipher.specs.InRow.{undo-in-row, undo-swapped};
+ghost use Rattle.cipher.specs.InRow.{undo_in_row, undo_swapped};
 
 use super::{Block, Cipher};
 
@@ -29,7 +29,7 @@ impl<A: Cipher, B: Cipher, C: Cipher> Cipher for Triple<A, B, C> {
 
     ghost inverse = { λ t. in_row (C.Cipher.inverse t.third) (B.Cipher.forward t.second) (A.Cipher.inverse t.first) };
 
-    ghost undo = { λ t. undo-in-row (A.Cipher.undo t.first) (undo-swapped (B.Cipher.undo t.second)) (C.Cipher.undo t.third) };
+    ghost undo = { λ t. undo_in_row (A.Cipher.undo t.first) (undo_swapped (B.Cipher.undo t.second)) (C.Cipher.undo t.third) };
 
     fn forward(&self, block: Block) -> Block {
         self.third

@@ -12,8 +12,8 @@ abbrev pub later : Machine → List (Option Work) → Machine
 later m inputs = record { forward = m.forward; inverse = m.inverse; depth = m.depth; row = drop (length inputs) (due m inputs) }
 
 -- an input comes out depth − 1 cycles after it went in
-abbrev pub In-time : Machine → (inputs : List (Option Work)) (answers : List (Option ℕ)) → Type 0
-In-time m inputs answers =
+abbrev pub InTime : Machine → (inputs : List (Option Work)) (answers : List (Option ℕ)) → Type 0
+InTime m inputs answers =
     (t : ℕ)
     → t + m.depth ≤ length inputs
     → t + m.depth ≤ length answers

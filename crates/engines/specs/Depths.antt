@@ -1,5 +1,5 @@
 -- No engine is deeper than this.
 use Rattle.std.specs.Prelude.{ℕ}
 
-abbrev pub greatest-depth : ℕ
-greatest-depth = 8
+abbrev pub the_greatest_depth : ℕ
+the_greatest_depth = 8

@@ -3,5 +3,5 @@ use Rattle.cipher.specs.declared.Cipher.{Ghosts as Functions}
 use Rattle.engines.specs.declared.plain.Plain.{Plain}
 use Rattle.engines.specs.Machines.{Machine, resting}
 
-abbrev pub plain-machine : {C : Type 0} → Functions C → Plain C → Machine
-plain-machine c p = resting (c.forward p.cipher) (c.inverse p.cipher) 1
+abbrev pub plain_machine : {C : Type 0} → Functions C → Plain C → Machine
+plain_machine c p = resting (c.forward p.cipher) (c.inverse p.cipher) 1

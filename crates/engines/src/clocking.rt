@@ -1,7 +1,7 @@
 //! What can be done with any engine.
 ghost use Rattle.std.specs.Prelude.{◌≡◌, length, take, replicate, None, slice_set};
-ghost use Rattle.engines.specs.Depths.{greatest-depth};
-ghost use Rattle.engines.specs.Cycles.{due, emptied, In-time, later, written_over};
+ghost use Rattle.engines.specs.Depths.{the_greatest_depth};
+ghost use Rattle.engines.specs.Cycles.{due, emptied, InTime, later, written_over};
 
 use super::engine::{Engine, GREATEST_DEPTH};
 use super::work::Work;
@@ -19,7 +19,7 @@ fn write_down(answers: &mut [Option<Block>], cycle: usize, answer: Option<Block>
 /// Clocks an engine once for each input, and writes down the answer of each cycle. Answers past the end of the list are lost.
 pub fn clock_each<E: Engine>(engine: &mut E, inputs: &[Option<Work>], answers: &mut [Option<Block>])
     ensures written { answers.new ≡ written_over (take (length inputs.now) (due (E.Engine.machine engine.old) inputs.now)) answers.old }
-    ensures timely { In-time (E.Engine.machine engine.old) inputs.now answers.new }
+    ensures timely { InTime (E.Engine.machine engine.old) inputs.now answers.new }
     ensures after { E.Engine.machine engine.new ≡ later (E.Engine.machine engine.old) inputs.now }
 {
     for (cycle, input) in inputs.iter().enumerate() {
@@ -37,7 +37,7 @@ fn places_of<E: Engine>(engine: &E) -> usize
 
 // Empty inputs, enough for the row of any engine.
 fn empty_inputs() -> [Option<Work>; GREATEST_DEPTH]
-    ensures { result ≡ replicate greatest-depth None }
+    ensures { result ≡ replicate the_greatest_depth None }
 {
     [None; GREATEST_DEPTH]
 }

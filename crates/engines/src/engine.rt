@@ -2,7 +2,7 @@
 ghost use Rattle.std.specs.Prelude.{◌≡◌, ◌+◌, ◌≤◌, length};
 ghost use Rattle.cipher.specs.Undoing.{Undo};
 ghost use Rattle.engines.specs.Machines.{Machine, answered, turned};
-ghost use Rattle.engines.specs.Depths.{greatest-depth};
+ghost use Rattle.engines.specs.Depths.{the_greatest_depth};
 
 use super::work::Work;
 use cipher::Block;
@@ -12,7 +12,7 @@ pub const GREATEST_DEPTH: usize = 8;
 
 /// The greatest depth of an engine, as proofs know it.
 pub fn greatest_depth() -> usize
-    ensures { result ≡ greatest-depth }
+    ensures { result ≡ the_greatest_depth }
 {
     GREATEST_DEPTH
 }
@@ -38,5 +38,5 @@ pub trait Engine: Sized {
 
     ghost places: { (e : Self) → length (machine e).row + 1 ≡ (machine e).depth };
 
-    ghost shallow: { (e : Self) → (machine e).depth ≤ greatest-depth };
+    ghost shallow: { (e : Self) → (machine e).depth ≤ the_greatest_depth };
 }

@@ -4,8 +4,8 @@ ghost use Rattle.cipher.specs.Triples.{in_row};
 ghost use Rattle.engines.specs.declared.table.BlockState.TheVariants.{Idle};
 ghost use Rattle.engines.specs.Machines.{answered, resting, turned};
 ghost use Rattle.engines.specs.Tables.{held, state};
-ghost use Rattle.engines.specs.Lines.{advanced, line-machine, stage-function, turned-at};
-ghost use Rattle.cipher.specs.InRow.{undo-in-row, undo-swapped};
+ghost use Rattle.engines.specs.Lines.{advanced, line_machine, stage_function, turned_at};
+ghost use Rattle.cipher.specs.InRow.{undo_in_row, undo_swapped};
 ghost use Rattle.std.proofs.Common.{rules};
 
 use super::engine::Engine;
@@ -28,7 +28,7 @@ pub struct Line<A, B, C> {
 impl<A: Cipher, B: Cipher, C: Cipher> Line<A, B, C> {
     /// A line with all its functional blocks idle.
     pub fn new(first: A, second: B, third: C) -> Self
-        ensures means { line-machine A.Cipher B.Cipher C.Cipher result ≡ resting (in_row (A.Cipher.forward first) (B.Cipher.inverse second) (C.Cipher.forward third)) (in_row (C.Cipher.inverse third) (B.Cipher.forward second) (A.Cipher.inverse first)) 3 }
+        ensures means { line_machine A.Cipher B.Cipher C.Cipher result ≡ resting (in_row (A.Cipher.forward first) (B.Cipher.inverse second) (C.Cipher.forward third)) (in_row (C.Cipher.inverse third) (B.Cipher.forward second) (A.Cipher.inverse first)) 3 }
         ensures idle { result.table.blocks ≡ Idle ∷ Idle ∷ Idle ∷ [] }
     {
         Line {
@@ -48,7 +48,7 @@ impl<A: Cipher, B: Cipher, C: Cipher> Line<A, B, C> {
 
     // The work of a functional block. The inverse goes through the ciphers the other way round.
     fn worked(&self, stage: Stage, work: Work) -> Block
-        ensures { result ≡ stage-function A.Cipher B.Cipher C.Cipher self.now stage work.direction work.block }
+        ensures { result ≡ stage_function A.Cipher B.Cipher C.Cipher self.now stage work.direction work.block }
     {
         match (stage, work.direction) {
             (Stage::First, Direction::Forward) => self.first.forward(work.block),
@@ -63,7 +63,7 @@ impl<A: Cipher, B: Cipher, C: Cipher> Line<A, B, C> {
     // One functional block works what comes in, and hands on what it held.
     fn turn(&mut self, stage: Stage, event: Option<Work>) -> Option<Work>
         ensures handed { result ≡ held (state self.old.table.blocks stage) }
-        ensures after { self.new ≡ turned-at A.Cipher B.Cipher C.Cipher self.old stage event }
+        ensures after { self.new ≡ turned_at A.Cipher B.Cipher C.Cipher self.old stage event }
         ensures three { length self.new.table.blocks ≡ 3 }
     {
         let taken = match event {
@@ -89,9 +89,9 @@ impl<A: Cipher, B: Cipher, C: Cipher> Line<A, B, C> {
 impl<A: Cipher, B: Cipher, C: Cipher> Engine for Line<A, B, C> {
     const DEPTH: usize = LINE_DEPTH;
 
-    ghost machine = { line-machine A.Cipher B.Cipher C.Cipher };
+    ghost machine = { line_machine A.Cipher B.Cipher C.Cipher };
 
-    ghost undo = { λ l. undo-in-row (A.Cipher.undo l.first) (undo-swapped (B.Cipher.undo l.second)) (C.Cipher.undo l.third) };
+    ghost undo = { λ l. undo_in_row (A.Cipher.undo l.first) (undo_swapped (B.Cipher.undo l.second)) (C.Cipher.undo l.third) };
 
     ghost places = { Prim.search rules };
 
@@ -103,8 +103,8 @@ impl<A: Cipher, B: Cipher, C: Cipher> Engine for Line<A, B, C> {
 
     /// Besides what any engine promises: each functional block holds its own work on what the one before it held.
     fn clock(&mut self, input: Option<Work>) -> Option<Block>
-        ensures answer { result ≡ answered (line-machine A.Cipher B.Cipher C.Cipher self.old) input }
-        ensures after { line-machine A.Cipher B.Cipher C.Cipher self.new ≡ turned (line-machine A.Cipher B.Cipher C.Cipher self.old) input }
+        ensures answer { result ≡ answered (line_machine A.Cipher B.Cipher C.Cipher self.old) input }
+        ensures after { line_machine A.Cipher B.Cipher C.Cipher self.new ≡ turned (line_machine A.Cipher B.Cipher C.Cipher self.old) input }
         ensures held { self.new ≡ advanced A.Cipher B.Cipher C.Cipher self.old input }
     {
         self.advance(input);

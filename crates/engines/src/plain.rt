@@ -1,7 +1,7 @@
 //! The plain engine: a cipher that answers in the cycle that it is asked in.
 ghost use Rattle.std.specs.Prelude.{◌≡◌};
 ghost use Rattle.engines.specs.Machines.{resting};
-ghost use Rattle.engines.specs.PlainEngines.{plain-machine};
+ghost use Rattle.engines.specs.PlainEngines.{plain_machine};
 ghost use Rattle.std.proofs.Common.{rules};
 
 use super::engine::Engine;
@@ -19,7 +19,7 @@ pub struct Plain<C> {
 
 impl<C: Cipher> Plain<C> {
     pub fn new(cipher: C) -> Self
-        ensures { plain-machine C.Cipher result ≡ resting (C.Cipher.forward cipher) (C.Cipher.inverse cipher) 1 }
+        ensures { plain_machine C.Cipher result ≡ resting (C.Cipher.forward cipher) (C.Cipher.inverse cipher) 1 }
     {
         Plain { cipher }
     }
@@ -28,7 +28,7 @@ impl<C: Cipher> Plain<C> {
 impl<C: Cipher> Engine for Plain<C> {
     const DEPTH: usize = PLAIN_DEPTH;
 
-    ghost machine = { plain-machine C.Cipher };
+    ghost machine = { plain_machine C.Cipher };
 
     ghost undo = { Prim.search rules };
 

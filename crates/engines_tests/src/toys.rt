@@ -1,9 +1,9 @@
 //! Three ciphers whose functions differ and do not commute.
-ghost use Rattle.engines_tests.specs.Toys.{added, crossed, rotated, rotated-back, taken-off};
+ghost use Rattle.engines_tests.specs.Toys.{added, crossed, rotated, rotated_back, taken_off};
 ghost use Rattle.std.proofs.Common.{rules, mod-lt, pow_pos};
 ghost use Rattle.std.specs.Prelude.{ℕ, ◌%◌, ◌^◌, ◌<◌, bit_xor};
 ghost use Rattle.std.proofs.lemmas.Nat.{xor_lt};
-ghost use Rattle.engines_tests.specs.CrossedCipherLemmas.{crossed-twice};
+ghost use Rattle.engines_tests.specs.CrossedCipherLemmas.{crossed_twice};
 
 use cipher::{Block, Cipher};
 
@@ -26,7 +26,7 @@ pub struct Crossed {
 impl Cipher for Rotated {
     ghost forward = { λ _. rotated };
 
-    ghost inverse = { λ _. rotated-back };
+    ghost inverse = { λ _. rotated_back };
 
     ghost undo = { Prim.search rules };
 
@@ -42,7 +42,7 @@ impl Cipher for Rotated {
 impl Cipher for Added {
     ghost forward = { λ c. added c.number };
 
-    ghost inverse = { λ c. taken-off c.number };
+    ghost inverse = { λ c. taken_off c.number };
 
     ghost undo = { Prim.search rules };
 
@@ -63,7 +63,7 @@ impl Cipher for Crossed {
     ghost undo = { λ c.
         let k = c.mask % 2 ^ 64 in
         let fits : (b : ℕ) → b < 2 ^ 64 → bit_xor b k < 2 ^ 64 = λ b h. xor_lt 64 b k h (mod-lt c.mask (pow_pos 64)) in
-        record { back = λ b h. crossed-twice b k; forth = λ b h. crossed-twice b k; forward-is-block = fits; inverse-is-block = fits } };
+        record { back = λ b h. crossed_twice b k; forth = λ b h. crossed_twice b k; forward_is_block = fits; inverse_is_block = fits } };
 
     fn forward(&self, block: Block) -> Block {
         block ^ self.mask

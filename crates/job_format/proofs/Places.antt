@@ -4,36 +4,36 @@ use Rattle.std.proofs.lemmas.List.{get_or_append_left, get_or_at}
 use Rattle.std.proofs.lemmas.Bool.{cases_lt, cond-true, cond-false, lt-ltb, le-ltb, le-leb}
 use Rattle.std.proofs.lemmas.Bool.Decides.{nat_tests}
 use Rattle.cipher.specs.Bytes.{block_at}
-use Rattle.modes.specs.Values.{blocksIn}
+use Rattle.modes.specs.Values.{blocks_in}
 use Rattle.job_format.specs.UnitBytes.{unit_size, units_in, place}
-use Rattle.job_format.proofs.Sizes.{length-blocks-in, units-in-counted}
+use Rattle.job_format.proofs.Sizes.{length_blocks_in, units_in_counted}
 
 -- what stands at a place, if anything does
 
 pub placed : (us : List ℕ) (i u : ℕ) → Some u ≡ place us i → (i < length us) × (u ≡ get_or us i 0)
 placed us i u e = (grind (arith, nat_tests), grind (arith, nat_tests))
 
-pub not-placed : (us : List ℕ) (i : ℕ) → None ≡ place us i → length us ≤ i
-not-placed us i e = grind (arith, nat_tests)
+pub not_placed : (us : List ℕ) (i : ℕ) → None ≡ place us i → length us ≤ i
+not_placed us i e = grind (arith, nat_tests)
 
 -- the units in some bytes
 
-pub none-behind : (w : ℕ) (bytes : List ℕ) (i : ℕ) → length bytes / unit_size w ≤ i → None ≡ place (units_in w bytes) i
-none-behind w bytes i l = sym (cond-false _ _ _ (le-ltb i (length (units_in w bytes)) (omega (arith, units-in-counted w bytes))))
+pub none_behind : (w : ℕ) (bytes : List ℕ) (i : ℕ) → length bytes / unit_size w ≤ i → None ≡ place (units_in w bytes) i
+none_behind w bytes i l = sym (cond-false _ _ _ (le-ltb i (length (units_in w bytes)) (omega (arith, units_in_counted w bytes))))
 
-block-among : (n : ℕ) (bs : List ℕ) (i : ℕ) → i < n → get_or (blocksIn n bs) i 0 ≡ block_at bs (8 * i)
-block-among zero bs i l = absurd (omega arith)
-block-among (suc n) bs i l =
+block_among : (n : ℕ) (bs : List ℕ) (i : ℕ) → i < n → get_or (blocks_in n bs) i 0 ≡ block_at bs (8 * i)
+block_among zero bs i l = absurd (omega arith)
+block_among (suc n) bs i l =
     ⊎_elim
-    (λ below. get_or_append_left (blocksIn n bs) _ 0 i (omega (arith, length-blocks-in n bs)) ∙ block-among n bs i below)
-    (λ last. let e : n ≡ i = omega arith in get_or_at (blocksIn n bs) _ [] 0 i (length-blocks-in n bs ∙ e) ∙ ap (λ (x : ℕ). block_at bs (8 * x)) e)
+    (λ below. get_or_append_left (blocks_in n bs) _ 0 i (omega (arith, length_blocks_in n bs)) ∙ block_among n bs i below)
+    (λ last. let e : n ≡ i = omega arith in get_or_at (blocks_in n bs) _ [] 0 i (length_blocks_in n bs ∙ e) ∙ ap (λ (x : ℕ). block_at bs (8 * x)) e)
     (cases_lt i n)
 
-pub block-placed : (w : ℕ) (bytes : List ℕ) (i : ℕ) → 64 ≤ w → i < length bytes / unit_size w
+pub block_placed : (w : ℕ) (bytes : List ℕ) (i : ℕ) → 64 ≤ w → i < length bytes / unit_size w
     → cond (leb (8 * i + 8) (length bytes)) (Some (block_at bytes (8 * i))) None ≡ place (units_in w bytes) i
-block-placed w bytes i wide l =
+block_placed w bytes i wide l =
     let e : ltb w 64 ≡ false = le-ltb w 64 wide in
     let below : i < length bytes / 8 = rw e at l in
-    let n = length-blocks-in (length bytes / 8) bytes in
+    let n = length_blocks_in (length bytes / 8) bytes in
     cond-true _ _ _ (le-leb (8 * i + 8) (length bytes) (omega arith))
-    ∙ sym (rw e (cond-true _ _ _ (lt-ltb i _ (omega arith)) ∙ ap (λ (x : ℕ). Some x) (block-among (length bytes / 8) bytes i below)))
+    ∙ sym (rw e (cond-true _ _ _ (lt-ltb i _ (omega arith)) ∙ ap (λ (x : ℕ). Some x) (block_among (length bytes / 8) bytes i below)))

@@ -4,7 +4,7 @@ use Rattle.refusals.specs.declared.Refusal.{Refusal}
 use Rattle.refusals.specs.declared.Refusal.TheVariants.{FieldTruncated, FieldTag, TrailingBytes}
 use Rattle.job_format.specs.declared.tag.Tag.{Tag}
 use Rattle.job_format.specs.declared.reader.Field.{Field}
-use Rattle.job_format.specs.Tags.{tag-number}
+use Rattle.job_format.specs.Tags.{tag_number}
 
 -- a field that was read: its tag, its bytes, and the offset behind it
 pub record Found : Type 0 where
@@ -20,14 +20,14 @@ length_at job p = 256 * slice_index job (p + 1) + slice_index job (p + 2)
 abbrev pub field_at : Tag → List ℕ → ℕ → Result Found Refusal
 field_at due job p =
     cond (nat_lt (length job) (p + 3)) (Err (FieldTruncated p))
-    (cond ((slice_index job p) == tag-number due)
+    (cond ((slice_index job p) == tag_number due)
     (cond (nat_lt (length job) (p + 3 + length_at job p)) (Err (FieldTruncated p))
     (Ok (record { tag = due; bytes = take (length_at job p) (drop (p + 3) job); after = p + 3 + length_at job p })))
     (Err (FieldTag p)))
 
 -- nothing may be left at offset p
-abbrev pub end-at : List ℕ → ℕ → Result (Unit {0}) Refusal
-end-at job p = cond (nat_lt p (length job)) (Err (TrailingBytes p)) (Ok tt)
+abbrev pub end_at : List ℕ → ℕ → Result (Unit {0}) Refusal
+end_at job p = cond (nat_lt p (length job)) (Err (TrailingBytes p)) (Ok tt)
 
 -- what a reader's answer holds, where the reader then stands at offset p
 abbrev pub found : Result Field Refusal → ℕ → Result Found Refusal

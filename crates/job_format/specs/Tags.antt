@@ -3,9 +3,9 @@ use Rattle.std.specs.Prelude.{ℕ}
 use Rattle.job_format.specs.declared.tag.Tag.{Tag}
 use Rattle.job_format.specs.declared.tag.Tag.TheVariants.{Keys, Code, Direction, InitialValues, Data}
 
-abbrev pub tag-number : Tag → ℕ
-tag-number Keys = 1
-tag-number Code = 2
-tag-number Direction = 3
-tag-number InitialValues = 4
-tag-number Data = 5
+abbrev pub tag_number : Tag → ℕ
+tag_number Keys = 1
+tag_number Code = 2
+tag_number Direction = 3
+tag_number InitialValues = 4
+tag_number Data = 5

@@ -1,6 +1,6 @@
 //! The five fields of a job.
 ghost use Rattle.std.specs.Prelude.{◌≡◌};
-ghost use Rattle.job_format.specs.Fields.{fields-of, parts-of, Format};
+ghost use Rattle.job_format.specs.Fields.{fields_of, parts_of, Format};
 
 use super::reader::Reader;
 use super::tag::Tag;
@@ -19,7 +19,7 @@ pub struct Fields<'a> {
 impl<'a> Fields<'a> {
     /// Reads a job's five fields, behind which nothing may be left. What is read is what was written, and nothing else is read.
     pub fn read(job: &'a [u8]) -> Result<Fields<'a>, Refusal>
-        ensures value { parts-of result ≡ fields-of job.now }
+        ensures value { parts_of result ≡ fields_of job.now }
         ensures format { Format }
     {
         let mut reader = Reader::new(job);

@@ -1,6 +1,6 @@
 //! The tags of a job's fields.
 ghost use Rattle.std.specs.Prelude.{◌≡◌};
-ghost use Rattle.job_format.specs.Tags.{tag-number};
+ghost use Rattle.job_format.specs.Tags.{tag_number};
 
 /// What a field holds. A job has one field of each, in this order.
 #[derive(Clone, Copy, PartialEq, Eq, Debug)]
@@ -15,7 +15,7 @@ pub enum Tag {
 impl Tag {
     /// The byte that stands for the tag.
     pub fn number(self) -> u8
-        ensures { result ≡ tag-number self }
+        ensures { result ≡ tag_number self }
     {
         match self {
             Tag::Keys => 1,

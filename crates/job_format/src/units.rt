@@ -1,8 +1,8 @@
 //! Units in bytes: eight bytes a unit where it is as wide as a block, the highest first, else one byte.
 ghost use Rattle.std.specs.Prelude.{◌≡◌, ◌≤◌};
 ghost use Rattle.modes.specs.Table.{row};
-ghost use Rattle.calls.specs.Due.{first-wide};
-ghost use Rattle.job_format.specs.UnitBytes.{unit_size, units_in, place, Units-in-bytes, units-written, written-end};
+ghost use Rattle.calls.specs.Due.{first_wide};
+ghost use Rattle.job_format.specs.UnitBytes.{unit_size, units_in, place, UnitsInBytes, units_written, written_end};
 
 use cipher::bytes::block_at;
 use modes::mode::Mode;
@@ -12,7 +12,7 @@ pub fn unit_size(mode: Mode) -> usize
     ensures value { result ≡ unit_size (row mode).width }
     ensures some { 1 ≤ result }
     ensures most { result ≤ 8 }
-    ensures law { Units-in-bytes }
+    ensures law { UnitsInBytes }
 {
     if mode.width() < 64 { 1 } else { 8 }
 }
@@ -32,7 +32,7 @@ pub fn unit_at(mode: Mode, bytes: &[u8], index: usize) -> Option<u64>
 
 /// The index of the first of the units in some bytes that is too wide for the mode.
 pub fn first_too_wide(mode: Mode, bytes: &[u8]) -> Option<usize>
-    ensures { result ≡ first-wide (row mode).width 0 (units_in (row mode).width bytes.now) }
+    ensures { result ≡ first_wide (row mode).width 0 (units_in (row mode).width bytes.now) }
 {
     let mut index = 0;
     while let Some(unit) = unit_at(mode, bytes, index) {
@@ -47,8 +47,8 @@ pub fn first_too_wide(mode: Mode, bytes: &[u8]) -> Option<usize>
 /// Writes units one behind the other from an offset on, and answers the offset behind them; where there is not enough room for
 /// all, writes none.
 pub fn write_units(mode: Mode, units: &[u64], out: &mut [u8], at: usize) -> Option<usize>
-    ensures value { result ≡ written-end (row mode).width units.now out.old at }
-    ensures output { out.new ≡ units-written (row mode).width units.now out.old at }
+    ensures value { result ≡ written_end (row mode).width units.now out.old at }
+    ensures output { out.new ≡ units_written (row mode).width units.now out.old at }
 {
     let size = unit_size(mode);
     if at > out.len() || (out.len() - at) / size < units.len() {

@@ -3,17 +3,17 @@ use Rattle.std.proofs.Common.{◌≡◌, ℕ, List, length, take, drop, Ok, Err,
 use Rattle.std.proofs.lemmas.List.{take_at}
 use Rattle.refusals.specs.declared.Refusal.{Refusal}
 use Rattle.jobs.specs.declared.report.Report.{Report}
-use Rattle.jobs.specs.Meaning.{Done, report-of, reported, output-after}
-use Rattle.job_text.specs.Texts.{report-lines, refusal-line, answer-text}
+use Rattle.jobs.specs.Meaning.{Done, report_of, reported, output_after}
+use Rattle.job_text.specs.Texts.{lines_of_report, line_of_refusal, answer_text}
 
 -- the bytes of the results stand first in the output list
-pub report-told : (m : Result Done Refusal) (t : Report) (xs ys : List ℕ) → Ok t ≡ reported m → ys ≡ output-after m xs → report-lines t.units t.cycles (take t.bytes ys) ≡ answer-text m
-report-told (Ok d) t xs ys e f =
-    let same : t ≡ report-of d = cc in
-    rw (same, f) (ap (report-lines d.units d.cycles) (take_at d.bytes (drop (length d.bytes) xs) _ refl))
-report-told (Err r) t xs ys e f = cc
+pub report_told : (m : Result Done Refusal) (t : Report) (xs ys : List ℕ) → Ok t ≡ reported m → ys ≡ output_after m xs → lines_of_report t.units t.cycles (take t.bytes ys) ≡ answer_text m
+report_told (Ok d) t xs ys e f =
+    let same : t ≡ report_of d = cc in
+    rw (same, f) (ap (lines_of_report d.units d.cycles) (take_at d.bytes (drop (length d.bytes) xs) _ refl))
+report_told (Err r) t xs ys e f = cc
 
 -- a refusal is told as it was answered
-pub refusal-told : (m : Result Done Refusal) (r : Refusal) → Err r ≡ reported m → refusal-line r ≡ answer-text m
-refusal-told (Ok d) r e = cc
-refusal-told (Err s) r e = let same : r ≡ s = cc in ap refusal-line same
+pub refusal_told : (m : Result Done Refusal) (r : Refusal) → Err r ≡ reported m → line_of_refusal r ≡ answer_text m
+refusal_told (Ok d) r e = cc
+refusal_told (Err s) r e = let same : r ≡ s = cc in ap line_of_refusal same

@@ -2,35 +2,35 @@
 use Rattle.std.specs.Prelude.{ℕ, ◌/◌, ◌%◌, List, [], ◌∷◌, Ok, Err, codes, decimal, Result, slice_index}
 use Rattle.std.specs.List.{concat as text_of, flat_map}
 use Rattle.refusals.specs.declared.Refusal.{Refusal}
-use Rattle.refusals.specs.Refusals.{number_of, detailOf}
+use Rattle.refusals.specs.Refusals.{number_of, detail_of}
 use Rattle.jobs.specs.Meaning.{Done}
 
 -- the capital digit of a number below 16
-abbrev pub digit-of : ℕ → ℕ
-digit-of n = slice_index (codes "0123456789ABCDEF") n
+abbrev pub digit_of : ℕ → ℕ
+digit_of n = slice_index (codes "0123456789ABCDEF") n
 
 -- the high digit first
-abbrev pub digits-of-byte : ℕ → List ℕ
-digits-of-byte b = digit-of (b / 16) ∷ digit-of (b % 16) ∷ []
+abbrev pub digits_of_byte : ℕ → List ℕ
+digits_of_byte b = digit_of (b / 16) ∷ digit_of (b % 16) ∷ []
 
-abbrev pub hexadecimal-of : List ℕ → List ℕ
-hexadecimal-of bytes = flat_map digits-of-byte bytes
+abbrev pub hexadecimal_of : List ℕ → List ℕ
+hexadecimal_of bytes = flat_map digits_of_byte bytes
 
-abbrev pub line-feed : List ℕ
-line-feed = 10 ∷ []
+abbrev pub line_feed : List ℕ
+line_feed = 10 ∷ []
 
 -- how many units, in how many cycles, and the bytes
-abbrev pub report-lines : (units cycles : ℕ) → List ℕ → List ℕ
-report-lines units cycles bytes =
-    text_of (codes "UNITS " ∷ decimal units ∷ line-feed
-    ∷ codes "CYCLES " ∷ decimal cycles ∷ line-feed
-    ∷ hexadecimal-of bytes ∷ line-feed ∷ [])
+abbrev pub lines_of_report : (units cycles : ℕ) → List ℕ → List ℕ
+lines_of_report units cycles bytes =
+    text_of (codes "UNITS " ∷ decimal units ∷ line_feed
+    ∷ codes "CYCLES " ∷ decimal cycles ∷ line_feed
+    ∷ hexadecimal_of bytes ∷ line_feed ∷ [])
 
 -- the number of the refusal and its detail
-abbrev pub refusal-line : Refusal → List ℕ
-refusal-line e = text_of (codes "REFUSED " ∷ decimal (number_of e) ∷ codes " " ∷ decimal (detailOf e) ∷ line-feed ∷ [])
+abbrev pub line_of_refusal : Refusal → List ℕ
+line_of_refusal e = text_of (codes "REFUSED " ∷ decimal (number_of e) ∷ codes " " ∷ decimal (detail_of e) ∷ line_feed ∷ [])
 
 -- what became of a job
-abbrev pub answer-text : Result Done Refusal → List ℕ
-answer-text (Ok d) = report-lines d.units d.cycles d.bytes
-answer-text (Err e) = refusal-line e
+abbrev pub answer_text : Result Done Refusal → List ℕ
+answer_text (Ok d) = lines_of_report d.units d.cycles d.bytes
+answer_text (Err e) = line_of_refusal e

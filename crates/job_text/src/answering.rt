@@ -1,9 +1,9 @@
 //! Running a job, and telling what became of it.
 ghost use Rattle.std.specs.Prelude.{◌≡◌, IfOk, string_bytes};
 ghost use Rattle.calls.specs.Theorem.{Theorem};
-ghost use Rattle.jobs.specs.Asking.{data-limit};
-ghost use Rattle.jobs.specs.Meaning.{meaning, Jobs-are-runs, Jobs-restore};
-ghost use Rattle.job_text.specs.Texts.{answer-text};
+ghost use Rattle.jobs.specs.Asking.{data_limit};
+ghost use Rattle.jobs.specs.Meaning.{meaning, JobsAreRuns, JobsRestore};
+ghost use Rattle.job_text.specs.Texts.{answer_text};
 
 use super::lines::{refusal_line, report_lines};
 use jobs::DATA_LIMIT;
@@ -13,10 +13,10 @@ use std::alloc::{AllocError, Global};
 /// The text that tells what became of a job: units, cycles and results, or why it is refused; an error only for want of memory. Its
 /// contract also carries the theorem over all lists of calls, that a job is one run, and that a job that goes back restores the data.
 pub fn answer(heap: Global, job: &[u8]) -> Result<String, AllocError>
-    ensures text { IfOk result (λ s. string_bytes s ≡ answer-text (meaning job.now data-limit)) }
+    ensures text { IfOk result (λ s. string_bytes s ≡ answer_text (meaning job.now data_limit)) }
     ensures theorem { Theorem }
-    ensures runs { Jobs-are-runs }
-    ensures restoring { Jobs-restore }
+    ensures runs { JobsAreRuns }
+    ensures restoring { JobsRestore }
 {
     let mut room = vec![in heap; 0; DATA_LIMIT]?;
     let out = room.as_mut_slice();

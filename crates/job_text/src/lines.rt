@@ -1,6 +1,6 @@
 //! The lines that tell what became of a job.
 ghost use Rattle.std.specs.Prelude.{◌≡◌, IfOk, string_bytes};
-ghost use Rattle.job_text.specs.Texts.{report-lines, refusal-line};
+ghost use Rattle.job_text.specs.Texts.{lines_of_report, line_of_refusal};
 
 use super::hexadecimal::hexadecimal;
 use refusals::Refusal;
@@ -13,7 +13,7 @@ pub fn report_lines(
     cycles: u64,
     bytes: &[u8],
 ) -> Result<String, AllocError>
-    ensures { IfOk result (λ s. string_bytes s ≡ report-lines units cycles bytes.now) }
+    ensures { IfOk result (λ s. string_bytes s ≡ lines_of_report units cycles bytes.now) }
 {
     let digits = hexadecimal(heap, bytes)?;
     format!(in heap; "UNITS {units}\nCYCLES {cycles}\n{digits}\n")
@@ -21,7 +21,7 @@ pub fn report_lines(
 
 /// A refusal with its number and its detail, on one line; an error only for want of memory.
 pub fn refusal_line(heap: Global, refusal: Refusal) -> Result<String, AllocError>
-    ensures { IfOk result (λ s. string_bytes s ≡ refusal-line refusal) }
+    ensures { IfOk result (λ s. string_bytes s ≡ line_of_refusal refusal) }
 {
     let number = refusal.number();
     let detail = refusal.detail();

@@ -5,42 +5,42 @@ use Rattle.refusals.specs.declared.Refusal.{Refusal}
 use Rattle.refusals.specs.declared.Refusal.TheVariants.{DataLength, PartialUnit, UnitWidth, OutputLength}
 use Rattle.modes.specs.declared.mode.Mode.{Mode}
 use Rattle.modes.specs.Table.{row}
-use Rattle.calls.specs.Due.{first-wide}
+use Rattle.calls.specs.Due.{first_wide}
 use Rattle.job_format.specs.UnitBytes.{unit_size, units_in}
-use Rattle.jobs.specs.Asking.{data-limit, data-checked}
+use Rattle.jobs.specs.Asking.{data_limit, data_checked}
 
 -- data that passes
 pub record Passing (m : Mode) (bytes : List ℕ) (room : ℕ) : Type 0 where
-  pub few : length bytes ≤ data-limit
+  pub few : length bytes ≤ data_limit
   pub whole : length bytes % unit_size (row m).width ≡ 0
-  pub narrow : first-wide (row m).width 0 (units_in (row m).width bytes) ≡ None
+  pub narrow : first_wide (row m).width 0 (units_in (row m).width bytes) ≡ None
   pub roomy : length bytes ≤ room
 
 module _ (m : Mode) (bytes : List ℕ) (room : ℕ) where
   abbrev wide : Option ℕ
-  wide = first-wide (row m).width 0 (units_in (row m).width bytes)
+  wide = first_wide (row m).width 0 (units_in (row m).width bytes)
 
   abbrev scanned : Option ℕ → Result (Unit {0}) Refusal
   scanned found = elim found [ Some i ↦ Err (UnitWidth i) | None ↦ cond (ltb room (length bytes)) (Err (OutputLength (length bytes))) (Ok tt) ]
 
-  module _ (few : length bytes ≤ data-limit) (whole : length bytes % unit_size (row m).width ≡ 0) where
-    on-to-scan : data-checked m bytes room ≡ scanned wide
-    on-to-scan = cond-false _ _ _ (le-ltb data-limit (length bytes) few) ∙ cond-true _ _ _ (eq-eqb _ 0 whole)
+  module _ (few : length bytes ≤ data_limit) (whole : length bytes % unit_size (row m).width ≡ 0) where
+    on_to_scan : data_checked m bytes room ≡ scanned wide
+    on_to_scan = cond-false _ _ _ (le-ltb data_limit (length bytes) few) ∙ cond-true _ _ _ (eq-eqb _ 0 whole)
 
-    pub refused-wide : (i : ℕ) → Some i ≡ wide → Err (UnitWidth i) ≡ data-checked m bytes room
-    refused-wide i e = sym (on-to-scan ∙ ap scanned (sym e))
+    pub refused_wide : (i : ℕ) → Some i ≡ wide → Err (UnitWidth i) ≡ data_checked m bytes room
+    refused_wide i e = sym (on_to_scan ∙ ap scanned (sym e))
 
-    pub refused-room : None ≡ wide → room < length bytes → Err (OutputLength (length bytes)) ≡ data-checked m bytes room
-    refused-room e l = sym (on-to-scan ∙ ap scanned (sym e) ∙ cond-true _ _ _ (lt-ltb room (length bytes) l))
+    pub refused_room : None ≡ wide → room < length bytes → Err (OutputLength (length bytes)) ≡ data_checked m bytes room
+    refused_room e l = sym (on_to_scan ∙ ap scanned (sym e) ∙ cond-true _ _ _ (lt-ltb room (length bytes) l))
 
-    pub passed : None ≡ wide → length bytes ≤ room → data-checked m bytes room ≡ Ok (tt {0})
-    passed e l = on-to-scan ∙ ap scanned (sym e) ∙ cond-false _ _ _ (le-ltb room (length bytes) l)
+    pub passed : None ≡ wide → length bytes ≤ room → data_checked m bytes room ≡ Ok (tt {0})
+    passed e l = on_to_scan ∙ ap scanned (sym e) ∙ cond-false _ _ _ (le-ltb room (length bytes) l)
 
   -- no other data passes
-  pub passing : data-checked m bytes room ≡ Ok (tt {0}) → Passing m bytes room
-  passing e = all (ltb data-limit (length bytes)) (eqb (length bytes % unit_size (row m).width) 0) wide (ltb room (length bytes)) refl refl refl refl e
+  pub passing : data_checked m bytes room ≡ Ok (tt {0}) → Passing m bytes room
+  passing e = all (ltb data_limit (length bytes)) (eqb (length bytes % unit_size (row m).width) 0) wide (ltb room (length bytes)) refl refl refl refl e
     where
-      all : (long whole : Bool) (found : Option ℕ) (short : Bool) → ltb data-limit (length bytes) ≡ long
+      all : (long whole : Bool) (found : Option ℕ) (short : Bool) → ltb data_limit (length bytes) ≡ long
           → eqb (length bytes % unit_size (row m).width) 0 ≡ whole → wide ≡ found → ltb room (length bytes) ≡ short
           → cond long (Err (DataLength (length bytes)))
           (cond whole (elim found [ Some i ↦ Err (UnitWidth i) | None ↦ cond short (Err (OutputLength (length bytes))) (Ok tt) ]) (Err (PartialUnit (length bytes))))

@@ -2,10 +2,10 @@
 ghost use Rattle.std.specs.Prelude.{◌≡◌};
 ghost use Rattle.std.specs.Result.{result_ok};
 ghost use Rattle.modes.specs.Table.{row};
-ghost use Rattle.runs.specs.Standing.{Same-engine};
-ghost use Rattle.runs.specs.Stands.{of-run};
-ghost use Rattle.job_format.specs.UnitBytes.{units-written, written-end};
-ghost use Rattle.jobs.specs.Carrying.{Fed-on, Fed-all, Drained-off, Carried-out};
+ghost use Rattle.runs.specs.Standing.{SameEngine};
+ghost use Rattle.runs.specs.Stands.{of_run};
+ghost use Rattle.job_format.specs.UnitBytes.{units_written, written_end};
+ghost use Rattle.jobs.specs.Carrying.{FedOn, FedAll, DrainedOff, CarriedOut};
 
 use super::report::Report;
 use engines::engine::{Engine, GREATEST_DEPTH};
@@ -17,8 +17,8 @@ use runs::run::Run;
 
 /// Writes units behind those before them. There is room for all, as the data was checked.
 fn hand_on(mode: Mode, units: &[u64], out: &mut [u8], end: usize) -> Result<usize, Refusal>
-    ensures value { result_ok result ≡ written-end (row mode).width units.now out.old end }
-    ensures output { out.new ≡ units-written (row mode).width units.now out.old end }
+    ensures value { result_ok result ≡ written_end (row mode).width units.now out.old end }
+    ensures output { out.new ≡ units_written (row mode).width units.now out.old end }
 {
     let wanted = end.saturating_add(unit_size(mode).saturating_mul(units.len()));
     write_units(mode, units, out, end).ok_or(Refusal::OutputLength(wanted))
@@ -32,8 +32,8 @@ fn feed_unit<E: Engine, W>(
     out: &mut [u8],
     end: usize,
 ) -> Result<usize, Refusal>
-    ensures fed { of-run Fed-on E.Engine.machine run.old run.new mode unit end out.old out.new result }
-    ensures same { Same-engine (E.Engine.machine run.old.engine) (E.Engine.machine run.new.engine) }
+    ensures fed { of_run FedOn E.Engine.machine run.old run.new mode unit end out.old out.new result }
+    ensures same { SameEngine (E.Engine.machine run.old.engine) (E.Engine.machine run.new.engine) }
 {
     let mut results = [0; GREATEST_DEPTH];
     let given = run.feed(&[unit], &mut results)?;
@@ -47,8 +47,8 @@ fn feed_all<E: Engine, W>(
     data: &[u8],
     out: &mut [u8],
 ) -> Result<usize, Refusal>
-    ensures fed { of-run Fed-all E.Engine.machine run.old run.new mode «data».now out.old out.new result }
-    ensures same { Same-engine (E.Engine.machine run.old.engine) (E.Engine.machine run.new.engine) }
+    ensures fed { of_run FedAll E.Engine.machine run.old run.new mode «data».now out.old out.new result }
+    ensures same { SameEngine (E.Engine.machine run.old.engine) (E.Engine.machine run.new.engine) }
 {
     let mut end = 0;
     let mut index = 0;
@@ -66,8 +66,8 @@ fn drain_off<E: Engine, W>(
     out: &mut [u8],
     end: usize,
 ) -> Result<usize, Refusal>
-    ensures drained { of-run Drained-off E.Engine.machine run.old run.new mode end out.old out.new result }
-    ensures same { Same-engine (E.Engine.machine run.old.engine) (E.Engine.machine run.new.engine) }
+    ensures drained { of_run DrainedOff E.Engine.machine run.old run.new mode end out.old out.new result }
+    ensures same { SameEngine (E.Engine.machine run.old.engine) (E.Engine.machine run.new.engine) }
 {
     let mut results = [0; GREATEST_DEPTH];
     let left = run.drain(&mut results)?;
@@ -81,7 +81,7 @@ fn carry<E: Engine, W>(
     data: &[u8],
     out: &mut [u8],
 ) -> Result<Report, Refusal>
-    ensures { Carried-out (E.Engine.machine run.old.engine) run.old.frame mode «data».now out.old out.new result }
+    ensures { CarriedOut (E.Engine.machine run.old.engine) run.old.frame mode «data».now out.old out.new result }
 {
     let fed = feed_all(run, mode, data, out)?;
     let bytes = drain_off(run, mode, out, fed)?;
@@ -99,7 +99,7 @@ pub(crate) fn carry_out<E: Engine + Drop, W: Drop>(
     data: &[u8],
     out: &mut [u8],
 ) -> Result<Report, Refusal>
-    ensures { Carried-out (E.Engine.machine run.engine) run.frame order.mode «data».now out.old out.new result }
+    ensures { CarriedOut (E.Engine.machine run.engine) run.frame order.mode «data».now out.old out.new result }
 {
     let answer = carry(&mut run, order.mode(), data, out);
     drop(run.close());

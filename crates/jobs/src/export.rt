@@ -1,6 +1,6 @@
 //! The one function for programs in C.
 ghost use Rattle.std.specs.Prelude.{◌≡◌, length};
-ghost use Rattle.jobs.specs.Meaning.{meaning, reported, output-after, signed};
+ghost use Rattle.jobs.specs.Meaning.{meaning, reported, output_after, signed};
 
 use super::running::run_job;
 
@@ -8,7 +8,7 @@ use super::running::run_job;
 #[unsafe(no_mangle)]
 pub extern "C" fn tdea_run(job: &[u8], out: &mut [u8]) -> i64
     ensures answer { result ≡ signed (reported (meaning job.now (length out.old))) }
-    ensures output { out.new ≡ output-after (meaning job.now (length out.old)) out.old }
+    ensures output { out.new ≡ output_after (meaning job.now (length out.old)) out.old }
     ensures unchanged { job.now ≡ job.now }
 {
     match run_job(job, out) {

@@ -1,6 +1,6 @@
 //! The keys of a job.
 ghost use Rattle.std.specs.Prelude.{◌≡◌, length, replicate};
-ghost use Rattle.jobs.specs.Keys.{keys-loaded, words-in};
+ghost use Rattle.jobs.specs.Keys.{keys_loaded, words_in};
 
 use keys::{KeyBundle, SingleKey};
 use refusals::Refusal;
@@ -15,7 +15,7 @@ pub(crate) enum KeySet {
 impl KeySet {
     /// Loads the key field of a job from a duplicate of it, since a job's bytes stay as they are.
     pub(crate) fn load(field: &[u8]) -> Result<KeySet, Refusal>
-        ensures { words-in result ≡ keys-loaded field.now }
+        ensures { words_in result ≡ keys_loaded field.now }
     {
         match field.len() {
             8 => load_from(field, &mut [0; 8]),
@@ -28,7 +28,7 @@ impl KeySet {
 /// Copies the key field into the duplicate and loads it from there. The duplicate is zero afterwards, loaded or refused.
 fn load_from(field: &[u8], duplicate: &mut [u8]) -> Result<KeySet, Refusal>
     requires { length duplicate.old ≡ length field.now }
-    ensures value { words-in result ≡ keys-loaded field.now }
+    ensures value { words_in result ≡ keys_loaded field.now }
     ensures zeroed { duplicate.new ≡ replicate (length duplicate.old) 0 }
 {
     duplicate.copy_from_slice(field);

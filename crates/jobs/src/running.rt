@@ -2,8 +2,8 @@
 ghost use Rattle.std.specs.Prelude.{◌≡◌, ◌≤◌, length, IfOk, Ok};
 ghost use Rattle.modes.specs.Orders.{opening};
 ghost use Rattle.calls.specs.Theorem.{Theorem};
-ghost use Rattle.jobs.specs.Asking.{data-limit, data-checked, task-asked};
-ghost use Rattle.jobs.specs.Meaning.{done, done_on, meaning, report-of, reported, output-after, Jobs-are-runs, Jobs-restore};
+ghost use Rattle.jobs.specs.Asking.{data_limit, data_checked, task_asked};
+ghost use Rattle.jobs.specs.Meaning.{done, done_on, meaning, report_of, reported, output_after, JobsAreRuns, JobsRestore};
 
 use super::carrying::carry_out;
 use super::key_set::KeySet;
@@ -22,12 +22,12 @@ use runs::cartridge::Cartridge;
 /// bytes as the data has, first in the output, and leaves its rest; where it is refused it leaves all of it.
 pub fn run_job(job: &[u8], out: &mut [u8]) -> Result<Report, Refusal>
     ensures answer { result ≡ reported (meaning job.now (length out.old)) }
-    ensures output { out.new ≡ output-after (meaning job.now (length out.old)) out.old }
+    ensures output { out.new ≡ output_after (meaning job.now (length out.old)) out.old }
     ensures unchanged { job.now ≡ job.now }
-    ensures limit { IfOk result (λ t. t.bytes ≤ data-limit) }
+    ensures limit { IfOk result (λ t. t.bytes ≤ data_limit) }
     ensures theorem { Theorem }
-    ensures runs { Jobs-are-runs }
-    ensures restoring { Jobs-restore }
+    ensures runs { JobsAreRuns }
+    ensures restoring { JobsRestore }
 {
     let fields = Fields::read(job)?;
     let task = Task::check(fields, out.len())?;
@@ -37,9 +37,9 @@ pub fn run_job(job: &[u8], out: &mut [u8]) -> Result<Report, Refusal>
 impl Task {
     /// One key runs on the plain engine over single DEA, three run on the line.
     fn run(self, data: &[u8], out: &mut [u8]) -> Result<Report, Refusal>
-        requires { data-checked self.order.mode «data».now (length out.old) ≡ Ok tt }
-        ensures answer { result ≡ Ok (report-of (done (task-asked self «data».now))) }
-        ensures output { out.new ≡ output-after (Ok (done (task-asked self «data».now))) out.old }
+        requires { data_checked self.order.mode «data».now (length out.old) ≡ Ok tt }
+        ensures answer { result ≡ Ok (report_of (done (task_asked self «data».now))) }
+        ensures output { out.new ≡ output_after (Ok (done (task_asked self «data».now))) out.old }
     {
         let Task { keys, order, way } = self;
         match keys {
@@ -64,9 +64,9 @@ fn run_on<E: Engine + Drop>(
     data: &[u8],
     out: &mut [u8],
 ) -> Result<Report, Refusal>
-    requires { data-checked order.mode «data».now (length out.old) ≡ Ok tt }
-    ensures answer { result ≡ Ok (report-of (done_on (E.Engine.machine engine) (opening order) way «data».now)) }
-    ensures output { out.new ≡ output-after (Ok (done_on (E.Engine.machine engine) (opening order) way «data».now)) out.old }
+    requires { data_checked order.mode «data».now (length out.old) ≡ Ok tt }
+    ensures answer { result ≡ Ok (report_of (done_on (E.Engine.machine engine) (opening order) way «data».now)) }
+    ensures output { out.new ≡ output_after (Ok (done_on (E.Engine.machine engine) (opening order) way «data».now)) out.old }
 {
     let cartridge = Cartridge::new(engine);
     match way {

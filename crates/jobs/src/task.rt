@@ -2,7 +2,7 @@
 ghost use Rattle.std.specs.Prelude.{◌≡◌, IfOk, Ok};
 ghost use Rattle.modes.specs.Table.{with_code};
 ghost use Rattle.job_format.specs.Fields.{parts_in};
-ghost use Rattle.jobs.specs.Asking.{only-byte, way-named, opened-for, opening_of, order-and-way, data-checked, task-of, task-in};
+ghost use Rattle.jobs.specs.Asking.{only_byte_of, way_of_direction, opened_for, opening_of, order_and_way, data_checked, task_of, task_in};
 
 use super::DATA_LIMIT;
 use super::key_set::KeySet;
@@ -25,8 +25,8 @@ pub(crate) struct Task {
 impl Task {
     /// What the five fields ask for, with so much room for the output.
     pub(crate) fn check(fields: Fields<'_>, room: usize) -> Result<Task, Refusal>
-        ensures value { task-in result fields.entry.«data».now ≡ task-of (parts_in fields.entry) room }
-        ensures ready { IfOk result (λ t. data-checked t.order.mode fields.entry.«data».now room ≡ Ok tt) }
+        ensures value { task_in result fields.entry.«data».now ≡ task_of (parts_in fields.entry) room }
+        ensures ready { IfOk result (λ t. data_checked t.order.mode fields.entry.«data».now room ≡ Ok tt) }
     {
         let keys = KeySet::load(fields.keys)?;
         let (order, way) = check_opening(fields)?;
@@ -37,7 +37,7 @@ impl Task {
 
 /// The one byte of a field.
 fn only_byte(tag: Tag, field: &[u8]) -> Result<u8, Refusal>
-    ensures { result ≡ only-byte tag field.now }
+    ensures { result ≡ only_byte_of tag field.now }
 {
     if field.len() == 1 {
         Ok(field[0])
@@ -47,7 +47,7 @@ fn only_byte(tag: Tag, field: &[u8]) -> Result<u8, Refusal>
 }
 
 fn way_named(direction: u8) -> Result<Way, Refusal>
-    ensures { result ≡ way-named direction }
+    ensures { result ≡ way_of_direction direction }
 {
     match direction {
         1 => Ok(Way::Enciphering),
@@ -58,7 +58,7 @@ fn way_named(direction: u8) -> Result<Way, Refusal>
 
 /// An order and a way. The code is judged first, the initial values last.
 fn open(code: u8, direction: u8, initial_values: &[u8]) -> Result<(Order, Way), Refusal>
-    ensures { order-and-way result ≡ opened-for (with_code code) code direction initial_values.now }
+    ensures { order_and_way result ≡ opened_for (with_code code) code direction initial_values.now }
 {
     if Mode::from_code(code).is_none() {
         return Err(Refusal::UnknownCode(code));
@@ -70,7 +70,7 @@ fn open(code: u8, direction: u8, initial_values: &[u8]) -> Result<(Order, Way), 
 
 /// The order and the way that the fields ask for.
 fn check_opening(fields: Fields<'_>) -> Result<(Order, Way), Refusal>
-    ensures { order-and-way result ≡ opening_of (parts_in fields.entry) }
+    ensures { order_and_way result ≡ opening_of (parts_in fields.entry) }
 {
     let code = only_byte(Tag::Code, fields.code)?;
     let direction = only_byte(Tag::Direction, fields.direction)?;
@@ -79,7 +79,7 @@ fn check_opening(fields: Fields<'_>) -> Result<(Order, Way), Refusal>
 
 /// That data is whole units of the mode, none too wide, and that there is room for as many bytes.
 fn check_data(mode: Mode, data: &[u8], room: usize) -> Result<(), Refusal>
-    ensures { result ≡ data-checked mode «data».now room }
+    ensures { result ≡ data_checked mode «data».now room }
 {
     let length = data.len();
     if length > DATA_LIMIT {

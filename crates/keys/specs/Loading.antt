@@ -6,26 +6,26 @@ use Rattle.refusals.specs.declared.Refusal.TheVariants.{KeyLength, KeyParity, Sa
 use Rattle.cipher.specs.Bytes.{block_at}
 use Rattle.keys.specs.declared.SingleKey.{SingleKey}
 use Rattle.keys.specs.declared.KeyBundle.{KeyBundle}
-use Rattle.keys.specs.Parity.{first-even}
+use Rattle.keys.specs.Parity.{first_even}
 
 -- refused for an even byte, if there is one
-abbrev pub parity-checked : Option ℕ → Result (Unit {0}) Refusal
-parity-checked (Some i) = Err (KeyParity i)
-parity-checked None = Ok tt
+abbrev pub parity_checked : Option ℕ → Result (Unit {0}) Refusal
+parity_checked (Some i) = Err (KeyParity i)
+parity_checked None = Ok tt
 
 -- the length first, then the parity
 abbrev pub checked : ℕ → List ℕ → Result (Unit {0}) Refusal
-checked n bs = cond (length bs == n) (parity-checked (first-even 0 bs)) (Err (KeyLength (length bs)))
+checked n bs = cond (length bs == n) (parity_checked (first_even 0 bs)) (Err (KeyLength (length bs)))
 
-abbrev pub single-loaded : List ℕ → Result ℕ Refusal
-single-loaded bs = result_and (checked 8 bs) (Ok (block_at bs 0))
+abbrev pub single_loaded : List ℕ → Result ℕ Refusal
+single_loaded bs = result_and (checked 8 bs) (Ok (block_at bs 0))
 
 -- three words, unless all are the same
 abbrev pub joined : ℕ → ℕ → ℕ → Result (ℕ × ℕ × ℕ) Refusal
 joined a b c = cond (a == b && b == c) (Err SameKeys) (Ok (a, b, c))
 
-abbrev pub bundle-loaded : List ℕ → Result (ℕ × ℕ × ℕ) Refusal
-bundle-loaded bs = result_and (checked 24 bs) (joined (block_at bs 0) (block_at bs 8) (block_at bs 16))
+abbrev pub bundle_loaded : List ℕ → Result (ℕ × ℕ × ℕ) Refusal
+bundle_loaded bs = result_and (checked 24 bs) (joined (block_at bs 0) (block_at bs 8) (block_at bs 16))
 
 -- what an answer of loading holds
 abbrev pub word_of : Result SingleKey Refusal → Result ℕ Refusal

@@ -1,7 +1,7 @@
 //! Ciphers from loaded keys. A key is used up by it, and nothing is refused.
 ghost use Rattle.std.specs.Prelude.{◌≡◌};
-ghost use Rattle.cipher.specs.Dea.{dea as deaOf, dea-inverse, triple-dea, triple-dea-inverse};
-ghost use Rattle.cipher.specs.Functions.{forward-of, inverse-of, triple-forward-of, triple-inverse-of};
+ghost use Rattle.cipher.specs.Dea.{dea as deaOf, dea_inverse, triple_dea, triple_dea_inverse};
+ghost use Rattle.cipher.specs.Functions.{forward_of, inverse_of, triple_forward_of, triple_inverse_of};
 
 use crate::{KeyBundle, SingleKey};
 use cipher::dea::Dea;
@@ -10,8 +10,8 @@ use cipher::triple::Triple;
 impl SingleKey {
     /// Single DEA under this key.
     pub fn into_cipher(self) -> Dea
-        ensures forward { forward-of result ≡ deaOf self.word }
-        ensures inverse { inverse-of result ≡ dea-inverse self.word }
+        ensures forward { forward_of result ≡ deaOf self.word }
+        ensures inverse { inverse_of result ≡ dea_inverse self.word }
     {
         Dea::new(self.word)
     }
@@ -20,8 +20,8 @@ impl SingleKey {
 impl KeyBundle {
     /// Single DEA under each of the three keys, first to third.
     pub fn into_ciphers(self) -> (Dea, Dea, Dea)
-        ensures forward { (forward-of result.0 ≡ deaOf self.first.word) × (forward-of result.1 ≡ deaOf self.second.word) × (forward-of result.2 ≡ deaOf self.third.word) }
-        ensures inverse { (inverse-of result.0 ≡ dea-inverse self.first.word) × (inverse-of result.1 ≡ dea-inverse self.second.word) × (inverse-of result.2 ≡ dea-inverse self.third.word) }
+        ensures forward { (forward_of result.0 ≡ deaOf self.first.word) × (forward_of result.1 ≡ deaOf self.second.word) × (forward_of result.2 ≡ deaOf self.third.word) }
+        ensures inverse { (inverse_of result.0 ≡ dea_inverse self.first.word) × (inverse_of result.1 ≡ dea_inverse self.second.word) × (inverse_of result.2 ≡ dea_inverse self.third.word) }
     {
         let first = self.first.into_cipher();
         let second = self.second.into_cipher();
@@ -31,8 +31,8 @@ impl KeyBundle {
 
     /// Triple DEA under these three keys.
     pub fn into_cipher(self) -> Triple<Dea, Dea, Dea>
-        ensures forward { triple-forward-of result ≡ triple-dea self.first.word self.second.word self.third.word }
-        ensures inverse { triple-inverse-of result ≡ triple-dea-inverse self.first.word self.second.word self.third.word }
+        ensures forward { triple_forward_of result ≡ triple_dea self.first.word self.second.word self.third.word }
+        ensures inverse { triple_inverse_of result ≡ triple_dea_inverse self.first.word self.second.word self.third.word }
     {
         let (first, second, third) = self.into_ciphers();
         Triple::new(first, second, third)

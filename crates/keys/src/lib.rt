@@ -7,7 +7,7 @@ mod parity;
 mod tests;
 
 ghost use Rattle.std.specs.Prelude.{◌≡◌, ◌≢◌};
-ghost use Rattle.keys.specs.Parity.{Odd-bytes};
+ghost use Rattle.keys.specs.Parity.{OddBytes};
 
 /// One loaded key: every byte of its word has an odd count of ones.
 ///
@@ -15,7 +15,7 @@ ghost use Rattle.keys.specs.Parity.{Odd-bytes};
 #[derive(Drop)]
 pub struct SingleKey {
     word: u64,
-    ghost odd: { Odd-bytes word },
+    ghost odd: { OddBytes word },
 }
 
 /// Three loaded keys that are not all the same.

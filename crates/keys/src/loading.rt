@@ -1,8 +1,8 @@
 //! Loading: key bytes are checked and taken over, and the lent bytes are zero afterwards.
 ghost use Rattle.std.specs.Prelude.{◌≡◌, ◌+◌, ◌≤◌, length, replicate, None};
 ghost use Rattle.cipher.specs.Bytes.{block_at};
-ghost use Rattle.keys.specs.Parity.{first-even};
-ghost use Rattle.keys.specs.Loading.{checked, single-loaded, bundle-loaded, word_of, words_of};
+ghost use Rattle.keys.specs.Parity.{first_even};
+ghost use Rattle.keys.specs.Loading.{checked, single_loaded, bundle_loaded, word_of, words_of};
 
 use crate::guard::Zeroing;
 use crate::parity::first_even_byte;
@@ -13,7 +13,7 @@ use refusals::Refusal;
 impl SingleKey {
     /// Loads one key from its eight bytes.
     pub fn load(key: &mut [u8]) -> Result<SingleKey, Refusal>
-        ensures value { word_of result ≡ single-loaded key.old }
+        ensures value { word_of result ≡ single_loaded key.old }
         ensures zeroed { key.new ≡ replicate (length key.old) 0 }
     {
         let held = Zeroing(key);
@@ -24,7 +24,7 @@ impl SingleKey {
 impl KeyBundle {
     /// Loads three keys from their 24 bytes.
     pub fn load(keys: &mut [u8]) -> Result<KeyBundle, Refusal>
-        ensures value { words_of result ≡ bundle-loaded keys.old }
+        ensures value { words_of result ≡ bundle_loaded keys.old }
         ensures zeroed { keys.new ≡ replicate (length keys.old) 0 }
     {
         let held = Zeroing(keys);
@@ -48,7 +48,7 @@ fn check(bytes: &[u8], wanted: usize) -> Result<(), Refusal>
 /// The key whose eight bytes stand from `at` on.
 fn key_at(bytes: &[u8], at: usize) -> SingleKey
     requires within { at + 8 ≤ length bytes.now }
-    requires odd { first-even 0 bytes.now ≡ None }
+    requires odd { first_even 0 bytes.now ≡ None }
     ensures { result.word ≡ block_at bytes.now at }
 {
     let word = block_at(bytes, at).unwrap();
@@ -56,14 +56,14 @@ fn key_at(bytes: &[u8], at: usize) -> SingleKey
 }
 
 fn read_single(bytes: &[u8]) -> Result<SingleKey, Refusal>
-    ensures { word_of result ≡ single-loaded bytes.now }
+    ensures { word_of result ≡ single_loaded bytes.now }
 {
     check(bytes, 8)?;
     Ok(key_at(bytes, 0))
 }
 
 fn read_bundle(bytes: &[u8]) -> Result<KeyBundle, Refusal>
-    ensures { words_of result ≡ bundle-loaded bytes.now }
+    ensures { words_of result ≡ bundle_loaded bytes.now }
 {
     check(bytes, 24)?;
     let first = key_at(bytes, 0);

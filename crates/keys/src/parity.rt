@@ -1,10 +1,10 @@
 //! Odd parity, byte by byte.
 ghost use Rattle.std.specs.Prelude.{◌≡◌};
-ghost use Rattle.keys.specs.Parity.{first-even};
+ghost use Rattle.keys.specs.Parity.{first_even};
 
 /// The index of the first byte with an even count of ones.
 pub(crate) fn first_even_byte(bytes: &[u8]) -> Option<usize>
-    ensures { result ≡ first-even 0 bytes.now }
+    ensures { result ≡ first_even 0 bytes.now }
 {
     for (i, byte) in bytes.iter().enumerate() {
         if byte.count_ones() % 2 == 0 {

@@ -10,67 +10,67 @@ use Rattle.modes.specs.Table.{row, reach}
 use Rattle.modes.specs.Values.{Units}
 use Rattle.modes.specs.declared.way.Way.TheVariants.{Enciphering, Deciphering}
 use Rattle.modes.specs.Results.{before, register, output, plain, sent, received}
-use Rattle.modes.specs.Laws.{In-reach, Struck, Reached, Damage}
-use Rattle.modes.proofs.Xor.{xor-last-two, xor-difference, xor-cancel}
-use Rattle.modes.proofs.Fits.{Fit, fit, as-block, register-holds}
-use Rattle.modes.proofs.Registers.{before-late, before_same, register-same, register-whole, register-full}
-use Rattle.modes.proofs.Receiving.{length-results, results-units, received-at, sent_back}
+use Rattle.modes.specs.Laws.{InReach, Struck, Reached, Damage}
+use Rattle.modes.proofs.Xor.{xor_last_two, xor_difference, xor_cancel}
+use Rattle.modes.proofs.Fits.{Fit, fit, as_block, register_holds}
+use Rattle.modes.proofs.Registers.{before_late, before_same, register_same, register_whole, register_full}
+use Rattle.modes.proofs.Receiving.{length_results, results_units, received_at, sent_back}
 
 -- functions that undo each other send different blocks to different blocks
 
 module _ (F G : ℕ → ℕ) (u : Undo F G) where
-  forward-once : (x y : ℕ) → x < 2 ^ 64 → y < 2 ^ 64 → F x ≡ F y → x ≡ y
-  forward-once x y hx hy e = sym (u.back x hx) ∙ ap G e ∙ u.back y hy
+  forward_once : (x y : ℕ) → x < 2 ^ 64 → y < 2 ^ 64 → F x ≡ F y → x ≡ y
+  forward_once x y hx hy e = sym (u.back x hx) ∙ ap G e ∙ u.back y hy
 
-  inverse-once : (x y : ℕ) → x < 2 ^ 64 → y < 2 ^ 64 → G x ≡ G y → x ≡ y
-  inverse-once x y hx hy e = sym (u.forth x hx) ∙ ap F e ∙ u.forth y hy
+  inverse_once : (x y : ℕ) → x < 2 ^ 64 → y < 2 ^ 64 → G x ≡ G y → x ≡ y
+  inverse_once x y hx hy e = sym (u.forth x hx) ∙ ap F e ∙ u.forth y hy
 
 -- the arriving units xs are the first of the sent units cs, but for the one of place d
 
 module _ (w δ : ℕ) (ivs cs xs : List ℕ) (d : ℕ) (len : length ivs ≡ δ)
     (alike : (i : ℕ) → i < length xs → (i ≡ d → ⊥) → get_or xs i 0 ≡ get_or cs i 0) where
-  before-unreached : (i : ℕ) → i < length xs → (i ≡ d + δ → ⊥) → before ivs xs i ≡ before ivs cs i
-  before-unreached i hi ne = before_same ivs xs cs i (λ j e. alike j (omega arith) (λ z. ne (omega arith)))
+  before_unreached : (i : ℕ) → i < length xs → (i ≡ d + δ → ⊥) → before ivs xs i ≡ before ivs cs i
+  before_unreached i hi ne = before_same ivs xs cs i (λ j e. alike j (omega arith) (λ z. ne (omega arith)))
 
-  register-unreached : (i : ℕ) → i < length xs → i < d + δ → register w ivs xs i ≡ register w ivs cs i
-  register-unreached i hi l = register-same w ivs xs cs i (λ j q. alike j (omega arith) (λ z. absurd (omega arith)))
+  register_unreached : (i : ℕ) → i < length xs → i < d + δ → register w ivs xs i ≡ register w ivs cs i
+  register_unreached i hi l = register_same w ivs xs cs i (λ j q. alike j (omega arith) (λ z. absurd (omega arith)))
 
   -- behind its reach the altered unit has left the register
-  register-rid : (e q : ℕ) → δ ≡ suc e → suc q * w ≡ 64 → Units w cs → length xs ≤ length cs
+  register_rid : (e q : ℕ) → δ ≡ suc e → suc q * w ≡ 64 → Units w cs → length xs ≤ length cs
       → (i : ℕ) → i < length xs → d + δ + suc q ≤ i → register w ivs xs i ≡ register w ivs cs i
-  register-rid e q de m hc hl i hi l =
+  register_rid e q de m hc hl i hi l =
       let a = i - e - suc q in
       let ia : e + a + suc q ≡ i = omega arith in
       ap (register w ivs xs) (sym ia)
-      ∙ register-whole w e ivs ivs xs cs (len ∙ de) (len ∙ de) a a q m
+      ∙ register_whole w e ivs ivs xs cs (len ∙ de) (len ∙ de) a a q m
       (λ t h. (alike (a + t) (omega arith) (λ z. absurd (omega arith)), hc (a + t) (omega arith)))
       ∙ ap (register w ivs cs) ia
 
 module _ (F G : ℕ → ℕ) (u : Undo F G) (w δ : ℕ) (ivs cs xs : List ℕ) (d : ℕ) (len : length ivs ≡ δ)
     (hc : Units w cs) (hx : Units w xs) (hl : length xs ≤ length cs) (hd : d < length xs)
     (alike : (i : ℕ) → i < length xs → (i ≡ d → ⊥) → get_or xs i 0 ≡ get_or cs i 0) where
-  plain-right : (f : Family) → Fit f w δ → (i : ℕ) → i < length xs → (i ≡ d → ⊥) → (In-reach (reach f w δ) d i → ⊥)
+  plain_right : (f : Family) → Fit f w δ → (i : ℕ) → i < length xs → (i ≡ d → ⊥) → (InReach (reach f w δ) d i → ⊥)
       → plain F G f w ivs xs i (get_or xs i 0) ≡ plain F G f w ivs cs i (get_or cs i 0)
-  plain-right Codebook fit i hi ne nr = ap G (alike i hi ne)
-  plain-right Chaining fit i hi ne nr =
+  plain_right Codebook fit i hi ne nr = ap G (alike i hi ne)
+  plain_right Chaining fit i hi ne nr =
       let own = alike i hi ne in
-      let link = before-unreached w δ ivs cs xs d len alike i hi (λ e. nr (omega arith, omega arith)) in
+      let link = before_unreached w δ ivs cs xs d len alike i hi (λ e. nr (omega arith, omega arith)) in
       cc (own, link)
-  plain-right CipherFeedback fit i hi ne nr =
+  plain_right CipherFeedback fit i hi ne nr =
       let own = alike i hi ne in
-      let q = register-holds w fit.0 in
+      let q = register_holds w fit.0 in
       let size : 64 / w ≡ suc q.0 = q.1 in
       let pos : 0 < δ = fit.1 in
       let same : register w ivs xs i ≡ register w ivs cs i =
       ⊎_elim
-      (λ l. register-unreached w δ ivs cs xs d len alike i hi l)
+      (λ l. register_unreached w δ ivs cs xs d len alike i hi l)
       (λ l. ⊎_elim
       (λ r. absurd (nr (l, omega arith)))
-      (λ r. register-rid w δ ivs cs xs d len alike (δ - 1) q.0 (omega arith) q.2 hc hl i hi (omega arith))
+      (λ r. register_rid w δ ivs cs xs d len alike (δ - 1) q.0 (omega arith) q.2 hc hl i hi (omega arith))
       (cases_lt i (d + δ + 64 / w)))
       (cases_lt i (d + δ)) in
       cc (own, same)
-  plain-right OutputFeedback fit i hi ne nr = ap (λ c. bit_xor c (output F ivs i)) (alike i hi ne)
+  plain_right OutputFeedback fit i hi ne nr = ap (λ c. bit_xor c (output F ivs i)) (alike i hi ne)
 
   module _ (b : Units 64 ivs) (ne : get_or xs d 0 ≡ get_or cs d 0 → ⊥) where
     -- x arrived for c
@@ -81,53 +81,53 @@ module _ (F G : ℕ → ℕ) (u : Undo F G) (w δ : ℕ) (ivs cs xs : List ℕ) 
     c = get_or cs d 0
 
     -- a unit joined with the same key stream is wrong by what was altered
-    mask-struck : (k p : ℕ) → bit_xor c k ≡ p → bit_xor x k ≡ bit_xor p (bit_xor c x)
-    mask-struck k p e =
-        ap (λ z. bit_xor z k) (sym (xor-difference c x)) ∙ xor-last-two c (bit_xor c x) k ∙ ap (λ z. bit_xor z (bit_xor c x)) e
+    mask_struck : (k p : ℕ) → bit_xor c k ≡ p → bit_xor x k ≡ bit_xor p (bit_xor c x)
+    mask_struck k p e =
+        ap (λ z. bit_xor z k) (sym (xor_difference c x)) ∙ xor_last_two c (bit_xor c x) k ∙ ap (λ z. bit_xor z (bit_xor c x)) e
 
     different : w ≡ 64 → G x ≡ G c → ⊥
-    different e g = ne (inverse-once F G u x c (as-block e x (hx d hd)) (as-block e c (hc d (omega arith))) g)
+    different e g = ne (inverse_once F G u x c (as_block e x (hx d hd)) (as_block e c (hc d (omega arith))) g)
 
     -- p is what the unaltered unit deciphers to
-    plain-struck : (f : Family) → Fit f w δ → (p : ℕ) → plain F G f w ivs cs d c ≡ p → Struck f p (plain F G f w ivs xs d x) (bit_xor c x)
-    plain-struck Codebook fit p hp = λ e. different fit (e ∙ sym hp)
-    plain-struck Chaining fit p hp = λ e.
+    plain_struck : (f : Family) → Fit f w δ → (p : ℕ) → plain F G f w ivs cs d c ≡ p → Struck f p (plain F G f w ivs xs d x) (bit_xor c x)
+    plain_struck Codebook fit p hp = λ e. different fit (e ∙ sym hp)
+    plain_struck Chaining fit p hp = λ e.
         let pos : 0 < δ = fit.1 in
-        let link = before-unreached w δ ivs cs xs d len alike d hd (λ z. absurd (omega arith)) in
+        let link = before_unreached w δ ivs cs xs d len alike d hd (λ z. absurd (omega arith)) in
         let l = before ivs cs d in
         different fit.0
-        (xor-cancel l (G x) (G c) (xor_comm l (G x) ∙ ap (bit_xor (G x)) (sym link) ∙ e ∙ sym hp ∙ xor_comm (G c) l))
-    plain-struck CipherFeedback fit p hp =
+        (xor_cancel l (G x) (G c) (xor_comm l (G x) ∙ ap (bit_xor (G x)) (sym link) ∙ e ∙ sym hp ∙ xor_comm (G c) l))
+    plain_struck CipherFeedback fit p hp =
         let pos : 0 < δ = fit.1 in
-        let same = register-unreached w δ ivs cs xs d len alike d hd (omega arith) in
-        ap (λ r. bit_xor x (leftmost w (F r))) same ∙ mask-struck (leftmost w (F (register w ivs cs d))) p hp
-    plain-struck OutputFeedback fit p hp = mask-struck (output F ivs d) p hp
+        let same = register_unreached w δ ivs cs xs d len alike d hd (omega arith) in
+        ap (λ r. bit_xor x (leftmost w (F r))) same ∙ mask_struck (leftmost w (F (register w ivs cs d))) p hp
+    plain_struck OutputFeedback fit p hp = mask_struck (output F ivs d) p hp
 
-    plain-reached : (f : Family) → Fit f w δ → (i p : ℕ) → i < length xs → plain F G f w ivs cs i (get_or cs i 0) ≡ p → In-reach (reach f w δ) d i
+    plain_reached : (f : Family) → Fit f w δ → (i p : ℕ) → i < length xs → plain F G f w ivs cs i (get_or cs i 0) ≡ p → InReach (reach f w δ) d i
         → Reached f w p (plain F G f w ivs xs i (get_or xs i 0)) (bit_xor c x)
-    plain-reached Codebook fit i p hi hp r = r
-    plain-reached Chaining fit i p hi hp r =
+    plain_reached Codebook fit i p hi hp r = r
+    plain_reached Chaining fit i p hi hp r =
         let pos : 0 < δ = fit.1 in
         let own = alike i hi (λ z. absurd (omega arith)) in
         let at : length ivs + d ≡ i = omega arith in
         let y = G (get_or cs i 0) in
         ap (λ z. bit_xor (G z) (before ivs xs i)) own
-        ∙ ap (bit_xor y) (before-late ivs xs i d at ∙ sym (xor-difference c x)) ∙ sym (xor_assoc y c (bit_xor c x))
-        ∙ ap (λ z. bit_xor (bit_xor y z) (bit_xor c x)) (sym (before-late ivs cs i d at)) ∙ ap (λ z. bit_xor z (bit_xor c x)) hp
-    plain-reached CipherFeedback fit i p hi hp r = λ whole e.
+        ∙ ap (bit_xor y) (before_late ivs xs i d at ∙ sym (xor_difference c x)) ∙ sym (xor_assoc y c (bit_xor c x))
+        ∙ ap (λ z. bit_xor (bit_xor y z) (bit_xor c x)) (sym (before_late ivs cs i d at)) ∙ ap (λ z. bit_xor z (bit_xor c x)) hp
+    plain_reached CipherFeedback fit i p hi hp r = λ whole e.
         let pos : 0 < δ = fit.1 in
         let one : 64 / w ≡ 1 = ap (λ z. 64 / z) whole in
         let own = alike i hi (λ z. absurd (omega arith)) in
         let at : length ivs + d ≡ i = omega arith in
-        let bx : x < 2 ^ 64 = as-block whole x (hx d hd) in
-        let bc : c < 2 ^ 64 = as-block whole c (hc d (omega arith)) in
+        let bx : x < 2 ^ 64 = as_block whole x (hx d hd) in
+        let bc : c < 2 ^ 64 = as_block whole c (hc d (omega arith)) in
         let key : (zs : List ℕ) → get_or zs d 0 < 2 ^ 64 → leftmost w (F (register w ivs zs i)) ≡ F (get_or zs d 0) =
-        λ zs hz. ap (λ k. leftmost k (F (register k ivs zs i))) whole ∙ div-one (F (register 64 ivs zs i)) ∙ ap F (register-full ivs zs d i (omega arith) at hz) in
+        λ zs hz. ap (λ k. leftmost k (F (register k ivs zs i))) whole ∙ div-one (F (register 64 ivs zs i)) ∙ ap F (register_full ivs zs d i (omega arith) at hz) in
         let y = get_or cs i 0 in
         let same : bit_xor y (F x) ≡ bit_xor y (F c) =
         ap (bit_xor y) (sym (key xs bx)) ∙ ap (λ z. bit_xor z (leftmost w (F (register w ivs xs i)))) (sym own) ∙ e ∙ sym hp ∙ ap (bit_xor y) (key cs bc) in
-        ne (forward-once F G u x c bx bc (xor-cancel y (F x) (F c) same))
-    plain-reached OutputFeedback fit i p hi hp r = r
+        ne (forward_once F G u x c bx bc (xor_cancel y (F x) (F c) same))
+    plain_reached OutputFeedback fit i p hi hp r = r
 
 pub damage : Damage
 damage F G F' G' ends m ivs ps xs b hp hx hl d hd alike ne =
@@ -136,20 +136,20 @@ damage F G F' G' ends m ivs ps xs b hp hx hl d hd alike ne =
     let δ = (row m).values in
     let u = ends.undo in
     let cs = sent F G m ivs ps in
-    let len : length cs ≡ length ps = length-results F G m Enciphering ivs ps (length ps) in
-    let out : length (received F' G' m ivs xs) ≡ length xs = length-results F' G' m Deciphering ivs xs (length xs) in
-    let hc = results-units F G m u Enciphering ivs ps (length ps) b hp (omega arith) in
+    let len : length cs ≡ length ps = length_results F G m Enciphering ivs ps (length ps) in
+    let out : length (received F' G' m ivs xs) ≡ length xs = length_results F' G' m Deciphering ivs xs (length xs) in
+    let hc = results_units F G m u Enciphering ivs ps (length ps) b hp (omega arith) in
     let plain-sent = sent_back F G u m ivs ps b hp in
-    let at = λ (i : ℕ) (l : i < length xs). received-at F G F' G' ends m ivs xs i b hx l in
+    let at = λ (i : ℕ) (l : i < length xs). received_at F G F' G' ends m ivs xs i b hx l in
     let hl' : length xs ≤ length cs = omega arith in
     let e = bit_xor (get_or cs d 0) (get_or xs d 0) in
     record {
       right = λ i hi nd nr.
-          at i (omega arith) ∙ plain-right F G u w δ ivs cs xs d b.count hc hx hl' hd alike f (fit m) i (omega arith) nd nr ∙ plain-sent i (omega arith);
+          at i (omega arith) ∙ plain_right F G u w δ ivs cs xs d b.count hc hx hl' hd alike f (fit m) i (omega arith) nd nr ∙ plain-sent i (omega arith);
       struck =
           subst (λ q. Struck f (get_or ps d 0) q e) (sym (at d hd))
-          (plain-struck F G u w δ ivs cs xs d b.count hc hx hl' hd alike b.blocks ne f (fit m) (get_or ps d 0) (plain-sent d (omega arith)));
+          (plain_struck F G u w δ ivs cs xs d b.count hc hx hl' hd alike b.blocks ne f (fit m) (get_or ps d 0) (plain-sent d (omega arith)));
       reached = λ i hi r.
           subst (λ q. Reached f w (get_or ps i 0) q e) (sym (at i (omega arith)))
-          (plain-reached F G u w δ ivs cs xs d b.count hc hx hl' hd alike b.blocks ne f (fit m) i (get_or ps i 0) (omega arith) (plain-sent i (omega arith)) r);
+          (plain_reached F G u w δ ivs cs xs d b.count hc hx hl' hd alike b.blocks ne f (fit m) i (get_or ps i 0) (omega arith) (plain-sent i (omega arith)) r);
     }

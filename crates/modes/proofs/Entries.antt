@@ -3,7 +3,7 @@ use Rattle.std.proofs.Common.{◌≡◌, ℕ, zero, suc, ◌+◌, ◌-◌, ◌*�
 use native.Mathlib.Nat.{add-div_right, div-eq_of_lt, div-zero}
 use Rattle.std.proofs.lemmas.Nat.{le-div, mul-le}
 use Rattle.std.proofs.lemmas.Bool.{cases_lt}
-use Rattle.modes.specs.Schedule.{entry, leaving, cost, May-enter, Schedule}
+use Rattle.modes.specs.Schedule.{entry, leaving, cost, MayEnter, Schedule}
 
 pub entry_next : (D : ℕ) (δ : Option ℕ) (j : ℕ) → entry D δ j + 1 ≤ entry D δ (j + 1)
 entry_next D None j = omega arith
@@ -12,73 +12,73 @@ entry_next D (Some (suc d)) j =
     let q : j / suc d ≤ (j + 1) / suc d = le-div (j / suc d) (j + 1) (suc d) (omega arith) (omega (arith, div-mul-le_self j (suc d))) in
     omega (arith, mul-le (j / suc d) (D - suc d) ((j + 1) / suc d) (D - suc d) q (omega arith))
 
-pub entry-least : (D : ℕ) (δ : Option ℕ) (j : ℕ) → j ≤ entry D δ j
-entry-least D None j = omega arith
-entry-least D (Some δ) j = omega arith
+pub entry_least : (D : ℕ) (δ : Option ℕ) (j : ℕ) → j ≤ entry D δ j
+entry_least D None j = omega arith
+entry_least D (Some δ) j = omega arith
 
 -- before its distance, and in an engine no deeper than the distance, a unit waits for none
-pub entry-early : (D δ j : ℕ) → j < δ → entry D (Some δ) j ≡ j
-entry-early D δ j l = ap (λ x. j + x * (D - δ)) (div-eq_of_lt l) ∙ omega (arith, zero-mul (D - δ))
+pub entry_early : (D δ j : ℕ) → j < δ → entry D (Some δ) j ≡ j
+entry_early D δ j l = ap (λ x. j + x * (D - δ)) (div-eq_of_lt l) ∙ omega (arith, zero-mul (D - δ))
 
-pub entry-flat : (D δ j : ℕ) → D ≤ δ → entry D (Some δ) j ≡ j
-entry-flat D δ j l =
+pub entry_flat : (D δ j : ℕ) → D ≤ δ → entry D (Some δ) j ≡ j
+entry_flat D δ j l =
     let z : D - δ ≡ 0 = omega arith in
     ap (λ x. j + j / δ * x) z ∙ omega (arith, mul-zero (j / δ))
 
 -- else a distance on is D cycles on
-pub entry-apart : (D δ i : ℕ) → 0 < δ → δ ≤ D → entry D (Some δ) (i + δ) ≡ entry D (Some δ) i + D
-entry-apart D δ i pos l =
+pub entry_apart : (D δ i : ℕ) → 0 < δ → δ ≤ D → entry D (Some δ) (i + δ) ≡ entry D (Some δ) i + D
+entry_apart D δ i pos l =
     let q : (i + δ) / δ ≡ i / δ + 1 = add-div_right i pos in
     let p : (i / δ + 1) * (D - δ) ≡ i / δ * (D - δ) + (D - δ) = add-mul (i / δ) 1 (D - δ) ∙ ap (λ x. i / δ * (D - δ) + x) (one-mul (D - δ)) in
     ap (λ x. i + δ + x * (D - δ)) q ∙ omega (arith, p)
 
 -- a stretch ends as its last unit enters
-pub cost-last : (D : ℕ) (δ : Option ℕ) (s : ℕ) → cost D δ (s + 1) ≡ entry D δ s + 1
-cost-last D None s = let e : s + 1 ≡ suc s = omega arith in ap (cost D None) e ∙ omega arith
-cost-last D (Some δ) s = let e : s + 1 ≡ suc s = omega arith in ap (cost D (Some δ)) e ∙ omega arith
+pub cost_last : (D : ℕ) (δ : Option ℕ) (s : ℕ) → cost D δ (s + 1) ≡ entry D δ s + 1
+cost_last D None s = let e : s + 1 ≡ suc s = omega arith in ap (cost D None) e ∙ omega arith
+cost_last D (Some δ) s = let e : s + 1 ≡ suc s = omega arith in ap (cost D (Some δ)) e ∙ omega arith
 
 -- a result is out before the unit at its distance enters
-pub leaving-in-time : (D δ i : ℕ) → 0 < δ → 1 ≤ D → leaving D (Some δ) i < entry D (Some δ) (i + δ)
-leaving-in-time D δ i pos deep =
+pub leaving_in_time : (D δ i : ℕ) → 0 < δ → 1 ≤ D → leaving D (Some δ) i < entry D (Some δ) (i + δ)
+leaving_in_time D δ i pos deep =
     ⊎_elim
-    (λ l. rw (entry-flat D δ (i + δ) (omega arith)) (omega (arith, entry-flat D δ i (omega arith))))
-    (λ l. rw (entry-apart D δ i pos l) (omega arith))
+    (λ l. rw (entry_flat D δ (i + δ) (omega arith)) (omega (arith, entry_flat D δ i (omega arith))))
+    (λ l. rw (entry_apart D δ i pos l) (omega arith))
     (cases_lt D δ)
 
 -- in any cycle in which it may enter, its own has come
-pub entry_first : (D : ℕ) (δ : Option ℕ) → 1 ≤ D → (δ ≡ Some 0 → ⊥) → (j t : ℕ) → May-enter D δ j t → entry D δ j ≤ t
+pub entry_first : (D : ℕ) (δ : Option ℕ) → 1 ≤ D → (δ ≡ Some 0 → ⊥) → (j t : ℕ) → MayEnter D δ j t → entry D δ j ≤ t
 entry_first D None deep ne zero t may = omega arith
 entry_first D None deep ne (suc j) t may = omega (arith, may.in_order j (omega arith))
 entry_first D (Some zero) deep ne j t may = absurd (ne refl)
 entry_first D (Some (suc d)) deep ne j t may =
     ⊎_elim
-    (λ l. rw (entry-early D (suc d) j l) (in-turn j t may))
+    (λ l. rw (entry_early D (suc d) j l) (in_turn j t may))
     (λ l. ⊎_elim
-    (λ g. rw (entry-flat D (suc d) j (omega arith)) (in-turn j t may))
+    (λ g. rw (entry_flat D (suc d) j (omega arith)) (in_turn j t may))
     (λ g. let e : j - suc d + suc d ≡ j = omega arith in
     let p : entry D (Some (suc d)) j ≡ entry D (Some (suc d)) (j - suc d) + D =
-    ap (entry D (Some (suc d))) (sym e) ∙ entry-apart D (suc d) (j - suc d) (omega arith) g in
-    let out : leaving D (Some (suc d)) (j - suc d) < t = may.in-time (suc d) (j - suc d) refl e in
+    ap (entry D (Some (suc d))) (sym e) ∙ entry_apart D (suc d) (j - suc d) (omega arith) g in
+    let out : leaving D (Some (suc d)) (j - suc d) < t = may.in_time (suc d) (j - suc d) refl e in
     let now : entry D (Some (suc d)) (j - suc d) + D ≤ t = omega arith in
     rw p now)
     (cases_lt D (suc d)))
     (cases_lt j (suc d))
   where
-    in-turn : (j t : ℕ) → May-enter D (Some (suc d)) j t → j ≤ t
-    in-turn zero t may = omega arith
-    in-turn (suc j) t may = omega (arith, may.in_order j (omega arith), entry-least D (Some (suc d)) j)
+    in_turn : (j t : ℕ) → MayEnter D (Some (suc d)) j t → j ≤ t
+    in_turn zero t may = omega arith
+    in_turn (suc j) t may = omega (arith, may.in_order j (omega arith), entry_least D (Some (suc d)) j)
 
 pub schedule : Schedule
 schedule D δ deep ne j =
     record {
       may = record {
         in_order = λ i e. subst (λ x. entry D δ i < entry D δ x) e (omega (arith, entry_next D δ i));
-        in-time = λ d i e at.
+        in_time = λ d i e at.
             subst (λ x. leaving D δ i < entry D δ x) at
             (subst (λ x. leaving D x i < entry D x (i + d)) (sym e)
-            (leaving-in-time D d i (⊎_elim (λ l. l) (λ l. absurd (ne (e ∙ ap Some (omega arith)))) (cases_lt 0 d)) deep));
+            (leaving_in_time D d i (⊎_elim (λ l. l) (λ l. absurd (ne (e ∙ ap Some (omega arith)))) (cases_lt 0 d)) deep));
       };
       first = entry_first D δ deep ne j;
-      ended = cost-last D δ j;
-      emptied = omega (arith, cost-last D δ j);
+      ended = cost_last D δ j;
+      emptied = omega (arith, cost_last D δ j);
     }

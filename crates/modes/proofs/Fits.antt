@@ -7,7 +7,7 @@ use Rattle.modes.specs.declared.way.Way.{Way}
 use Rattle.modes.specs.declared.way.Way.TheVariants.{Enciphering, Deciphering}
 use Rattle.modes.specs.declared.mode.Mode.{Mode}
 use Rattle.modes.specs.declared.mode.Mode.TheVariants.{Ecb, Cbc, CbcInterleaved, Cfb64, Cfb8, Cfb1, CfbPipelined64, CfbPipelined8, CfbPipelined1, Ofb, OfbInterleaved}
-use Rattle.modes.specs.Table.{row, firstWith, modes, distance, distance_of, Codes-name-modes}
+use Rattle.modes.specs.Table.{row, first_with, modes, distance, distance_of, CodesNameModes}
 
 abbrev pub Fit : Family → ℕ → ℕ → Type 0
 Fit Codebook w δ = w ≡ 64
@@ -23,11 +23,11 @@ fits Chaining w δ = eqb w 64 && ltb 0 δ
 fits CipherFeedback w δ = eqb (w * (64 / w)) 64 && ltb 0 δ
 fits OutputFeedback w δ = eqb w 64 && ltb 0 δ
 
-fits-true : (f : Family) (w δ : ℕ) → fits f w δ ≡ true → Fit f w δ
-fits-true Codebook w δ e = eqb-true w 64 e
-fits-true Chaining w δ e = let p = and_parts _ _ e in (eqb-true w 64 p.0, ltb-true 0 δ p.1)
-fits-true CipherFeedback w δ e = let p = and_parts _ _ e in (eqb-true (w * (64 / w)) 64 p.0, ltb-true 0 δ p.1)
-fits-true OutputFeedback w δ e = let p = and_parts _ _ e in (eqb-true w 64 p.0, ltb-true 0 δ p.1)
+fits_true : (f : Family) (w δ : ℕ) → fits f w δ ≡ true → Fit f w δ
+fits_true Codebook w δ e = eqb-true w 64 e
+fits_true Chaining w δ e = let p = and_parts _ _ e in (eqb-true w 64 p.0, ltb-true 0 δ p.1)
+fits_true CipherFeedback w δ e = let p = and_parts _ _ e in (eqb-true (w * (64 / w)) 64 p.0, ltb-true 0 δ p.1)
+fits_true OutputFeedback w δ e = let p = and_parts _ _ e in (eqb-true w 64 p.0, ltb-true 0 δ p.1)
 
 -- what is computed for the whole table holds of each mode
 
@@ -35,7 +35,7 @@ abbrev passes : (Mode → Bool) → List Mode → Bool
 passes test [] = true
 passes test (m ∷ ms) = test m && passes test ms
 
-first_passes : (test : Mode → Bool) (code : ℕ) (ms : List Mode) (m : Mode) → firstWith code ms ≡ Some m → passes test ms ≡ true → test m ≡ true
+first_passes : (test : Mode → Bool) (code : ℕ) (ms : List Mode) (m : Mode) → first_with code ms ≡ Some m → passes test ms ≡ true → test m ≡ true
 first_passes test code [] m e h = let z : ◌≡◌ {A = ℕ} 0 1 = cc in absurd (omega arith)
 first_passes test code (n ∷ ms) m e h =
     let p = and_parts (test n) (passes test ms) h in
@@ -44,8 +44,8 @@ first_passes test code (n ∷ ms) m e h =
     (λ t. first_passes test code ms m (sym (cond-false _ _ _ t) ∙ e) p.1)
     (cases_Bool (eqb code (row n).code))
 
-pub codes-name-modes : Codes-name-modes
-codes-name-modes = elim [
+pub codes_name_modes : CodesNameModes
+codes_name_modes = elim [
   | Ecb ↦ refl
   | Cbc ↦ refl
   | CbcInterleaved ↦ refl
@@ -59,29 +59,29 @@ codes-name-modes = elim [
   | OfbInterleaved ↦ refl
 ]
 
-pub each-passes : (test : Mode → Bool) → passes test modes ≡ true → (m : Mode) → test m ≡ true
-each-passes test h m = first_passes test (row m).code modes m (codes-name-modes m) h
+pub each_passes : (test : Mode → Bool) → passes test modes ≡ true → (m : Mode) → test m ≡ true
+each_passes test h m = first_passes test (row m).code modes m (codes_name_modes m) h
 
 pub fit : (m : Mode) → Fit (row m).family (row m).width (row m).values
 fit m =
-    fits-true (row m).family (row m).width (row m).values
-    (each-passes (λ n. fits (row n).family (row n).width (row n).values) refl m)
+    fits_true (row m).family (row m).width (row m).values
+    (each_passes (λ n. fits (row n).family (row n).width (row n).values) refl m)
 
-pub code-is-byte : (m : Mode) → (row m).code < 2 ^ 8
-code-is-byte m = ltb-true (row m).code (2 ^ 8) (each-passes (λ n. ltb (row n).code (2 ^ 8)) refl m)
+pub code_is_byte : (m : Mode) → (row m).code < 2 ^ 8
+code_is_byte m = ltb-true (row m).code (2 ^ 8) (each_passes (λ n. ltb (row n).code (2 ^ 8)) refl m)
 
-pub width-within : (m : Mode) → (0 < (row m).width) × ((row m).width ≤ 64)
-width-within m = (
-  ltb-true 0 (row m).width (each-passes (λ n. ltb 0 (row n).width) refl m),
-  leb-true (row m).width 64 (each-passes (λ n. leb (row n).width 64) refl m),
+pub width_within : (m : Mode) → (0 < (row m).width) × ((row m).width ≤ 64)
+width_within m = (
+  ltb-true 0 (row m).width (each_passes (λ n. ltb 0 (row n).width) refl m),
+  leb-true (row m).width 64 (each_passes (λ n. leb (row n).width 64) refl m),
 )
 
-pub values-within : (m : Mode) → (row m).values ≤ 3
-values-within m = leb-true (row m).values 3 (each-passes (λ n. leb (row n).values 3) refl m)
+pub values_within : (m : Mode) → (row m).values ≤ 3
+values_within m = leb-true (row m).values 3 (each_passes (λ n. leb (row n).values 3) refl m)
 
 -- no unit waits for its own result
-pub distance-proper : (m : Mode) (way : Way) → distance_of m way ≡ Some 0 → ⊥
-distance-proper m way e = proper (row m).family way (row m).width (row m).values (fit m) e
+pub distance_proper : (m : Mode) (way : Way) → distance_of m way ≡ Some 0 → ⊥
+distance_proper m way e = proper (row m).family way (row m).width (row m).values (fit m) e
   where
     proper : (f : Family) (way : Way) (w δ : ℕ) → Fit f w δ → distance f way δ ≡ Some 0 → ⊥
     proper Codebook way w δ fit e = let z : ◌≡◌ {A = ℕ} 0 1 = cc in omega arith
@@ -92,19 +92,19 @@ distance-proper m way e = proper (row m).family way (row m).width (row m).values
     proper OutputFeedback way w δ fit e = let z : δ ≡ 0 = cc in omega (arith, fit.1)
 
 -- units of 64 bits are blocks
-pub as-block : {w : ℕ} → w ≡ 64 → (x : ℕ) → x < 2 ^ w → x < 2 ^ 64
-as-block e x h = subst (λ k. x < 2 ^ k) e h
+pub as_block : {w : ℕ} → w ≡ 64 → (x : ℕ) → x < 2 ^ w → x < 2 ^ 64
+as_block e x h = subst (λ k. x < 2 ^ k) e h
 
-pub as-unit : {w : ℕ} → w ≡ 64 → (x : ℕ) → x < 2 ^ 64 → x < 2 ^ w
-as-unit e x h = subst (λ k. x < 2 ^ k) (sym e) h
+pub as_unit : {w : ℕ} → w ≡ 64 → (x : ℕ) → x < 2 ^ 64 → x < 2 ^ w
+as_unit e x h = subst (λ k. x < 2 ^ k) (sym e) h
 
-pub width-le : (w q : ℕ) → w * q ≡ 64 → w ≤ 64
-width-le w zero h = absurd (omega (arith, mul-zero w))
-width-le w (suc q) h = omega (arith, mul-suc w q)
+pub width_le : (w q : ℕ) → w * q ≡ 64 → w ≤ 64
+width_le w zero h = absurd (omega (arith, mul-zero w))
+width_le w (suc q) h = omega (arith, mul-suc w q)
 
 -- a register holds at least one unit
-pub register-holds : (w : ℕ) → w * (64 / w) ≡ 64 → (q : ℕ) × (64 / w ≡ suc q) × (suc q * w ≡ 64)
-register-holds w h = holds (64 / w) h
+pub register_holds : (w : ℕ) → w * (64 / w) ≡ 64 → (q : ℕ) × (64 / w ≡ suc q) × (suc q * w ≡ 64)
+register_holds w h = holds (64 / w) h
   where
     holds : (x : ℕ) → w * x ≡ 64 → (q : ℕ) × (x ≡ suc q) × (suc q * w ≡ 64)
     holds zero e = absurd (omega (arith, mul-zero w))

@@ -5,8 +5,8 @@ use Rattle.std.proofs.lemmas.Bool.{cases_order}
 use Rattle.modes.specs.Values.{Units}
 use Rattle.modes.specs.Results.{grown}
 
-pub units-push : (w : ℕ) (us : List ℕ) (u : ℕ) → Units w us → u < 2 ^ w → Units w (us ++ u ∷ [])
-units-push w us u hs h k l =
+pub units_push : (w : ℕ) (us : List ℕ) (u : ℕ) → Units w us → u < 2 ^ w → Units w (us ++ u ∷ [])
+units_push w us u hs h k l =
     let len = length_push us u in
     ⊎_elim
     (λ e. rw (get_or_push us u 0 k (sym e)) h)
@@ -14,40 +14,40 @@ units-push w us u hs h k l =
     (cases_order k (length us))
 
 module _ (next : List ℕ → ℕ → ℕ) where
-  pub length-grown : (n : ℕ) → length (grown next n) ≡ n
-  length-grown zero = refl
-  length-grown (suc n) = length_push (grown next n) _ ∙ omega (arith, length-grown n)
+  pub length_grown : (n : ℕ) → length (grown next n) ≡ n
+  length_grown zero = refl
+  length_grown (suc n) = length_push (grown next n) _ ∙ omega (arith, length_grown n)
 
-  pub grown-at : (n i : ℕ) → i < n → get_or (grown next n) i 0 ≡ next (grown next i) i
-  grown-at zero i h = absurd (omega arith)
-  grown-at (suc n) i h =
-      let len = length-grown n in
+  pub grown_at : (n i : ℕ) → i < n → get_or (grown next n) i 0 ≡ next (grown next i) i
+  grown_at zero i h = absurd (omega arith)
+  grown_at (suc n) i h =
+      let len = length_grown n in
       ⊎_elim
       (λ e. get_or_push (grown next n) _ 0 i (len ∙ sym e) ∙ ap (λ k. next (grown next k) k) (sym e))
       (⊎_elim
-      (λ l. get_or_append_left (grown next n) _ 0 i (omega arith) ∙ grown-at n i l)
+      (λ l. get_or_append_left (grown next n) _ 0 i (omega arith) ∙ grown_at n i l)
       (λ l. absurd (omega arith)))
       (cases_order i n)
 
   -- two of different length agree as far as both go
-  pub grown-agree : (m n i : ℕ) → i < m → i < n → get_or (grown next m) i 0 ≡ get_or (grown next n) i 0
-  grown-agree m n i hm hn = grown-at m i hm ∙ sym (grown-at n i hn)
+  pub grown_agree : (m n i : ℕ) → i < m → i < n → get_or (grown next m) i 0 ≡ get_or (grown next n) i 0
+  grown_agree m n i hm hn = grown_at m i hm ∙ sym (grown_at n i hn)
 
-  pub take-grown : (k n : ℕ) → k ≤ n → take k (grown next n) ≡ grown next k
-  take-grown k n h =
-      let len = length-grown n in
+  pub take_grown : (k n : ℕ) → k ≤ n → take k (grown next n) ≡ grown next k
+  take_grown k n h =
+      let len = length_grown n in
       let short : length (take k (grown next n)) ≡ k = length-take-le k (grown next n) (omega arith) in
-      ext_get_or 0 (take k (grown next n)) (grown next k) (short ∙ sym (length-grown k))
-      (λ i l. let l' : i < k = omega arith in get_or-take k (grown next n) i 0 l' ∙ grown-agree n k i (omega arith) l')
+      ext_get_or 0 (take k (grown next n)) (grown next k) (short ∙ sym (length_grown k))
+      (λ i l. let l' : i < k = omega arith in get_or-take k (grown next n) i 0 l' ∙ grown_agree n k i (omega arith) l')
 
-  pub units-grown : (w n : ℕ) → ((i : ℕ) → i < n → Units w (grown next i) → next (grown next i) i < 2 ^ w) → Units w (grown next n)
-  units-grown w zero h = λ k l. absurd (omega arith)
-  units-grown w (suc n) h =
-      let ih = units-grown w n (λ i l. h i (omega arith)) in
-      units-push w (grown next n) _ ih (h n (omega arith) ih)
+  pub units_grown : (w n : ℕ) → ((i : ℕ) → i < n → Units w (grown next i) → next (grown next i) i < 2 ^ w) → Units w (grown next n)
+  units_grown w zero h = λ k l. absurd (omega arith)
+  units_grown w (suc n) h =
+      let ih = units_grown w n (λ i l. h i (omega arith)) in
+      units_push w (grown next n) _ ih (h n (omega arith) ih)
 
-pub grown-same : (next next' : List ℕ → ℕ → ℕ) (n : ℕ) → ((i : ℕ) → i < n → next (grown next i) i ≡ next' (grown next i) i) → grown next n ≡ grown next' n
-grown-same next next' zero h = refl
-grown-same next next' (suc n) h =
-    let ih = grown-same next next' n (λ i l. h i (omega arith)) in
+pub grown_same : (next next' : List ℕ → ℕ → ℕ) (n : ℕ) → ((i : ℕ) → i < n → next (grown next i) i ≡ next' (grown next i) i) → grown next n ≡ grown next' n
+grown_same next next' zero h = refl
+grown_same next next' (suc n) h =
+    let ih = grown_same next next' n (λ i l. h i (omega arith)) in
     ap (λ x. grown next n ++ x ∷ []) (h n (omega arith)) ∙ ap (λ xs. xs ++ next' xs n ∷ []) ih

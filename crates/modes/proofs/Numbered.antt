@@ -8,15 +8,15 @@ use Rattle.modes.specs.declared.family.Family.TheVariants.{Codebook, Chaining, C
 use Rattle.modes.specs.Bits.{leftmost, shifted}
 use Rattle.modes.specs.Table.{row}
 use Rattle.modes.specs.Results.{before, register, stream, output, ciphered, plain, enciphered, deciphered}
-use Rattle.modes.specs.Equations.{unit, Up-to, back, input, Enciphers, Deciphers, Equations}
+use Rattle.modes.specs.Equations.{unit, UpTo, back, input, Enciphers, Deciphers, Equations}
 use Rattle.modes.proofs.Xor.{unmasked}
-use Rattle.modes.proofs.Grown.{length-grown, grown-at}
+use Rattle.modes.proofs.Grown.{length_grown, grown_at}
 use Rattle.modes.proofs.Fits.{Fit, fit}
-use Rattle.modes.proofs.Registers.{before-early, before-late, register-early, register-late}
-use Rattle.modes.proofs.Ciphered.{enciphered-at, enciphered-only}
+use Rattle.modes.proofs.Registers.{before_early, before_late, register_early, register_late}
+use Rattle.modes.proofs.Ciphered.{enciphered_at, enciphered_only}
 
 -- from places to numbers
-up_to : (n : ℕ) (Q : ℕ → Type 0) → ((k : ℕ) → k < n → Q (suc k)) → Up-to n Q
+up_to : (n : ℕ) (Q : ℕ → Type 0) → ((k : ℕ) → k < n → Q (suc k)) → UpTo n Q
 up_to n Q h zero l l' = absurd (omega arith)
 up_to n Q h (suc k) l l' = h k (omega arith)
 
@@ -24,17 +24,17 @@ up_to n Q h (suc k) l l' = h k (omega arith)
 back_early : (δ : ℕ) (IV X : ℕ → ℕ) (i : ℕ) → i ≤ δ → back δ IV X i ≡ IV i
 back_early δ IV X i l = cond-true (leb i δ) (IV i) (X (i - δ)) (le-leb i δ l)
 
-back-late : (δ : ℕ) (IV X : ℕ → ℕ) (k j : ℕ) → δ + j ≡ k → back δ IV X (suc k) ≡ X (suc j)
-back-late δ IV X k j e =
+back_late : (δ : ℕ) (IV X : ℕ → ℕ) (k j : ℕ) → δ + j ≡ k → back δ IV X (suc k) ≡ X (suc j)
+back_late δ IV X k j e =
     let q : suc k - δ ≡ suc j = omega arith in
     cond-false (leb (suc k) δ) (IV (suc k)) (X (suc k - δ)) (lt-leb (suc k) δ (omega arith)) ∙ ap X q
 
-back-is-before : (δ : ℕ) (ivs xs : List ℕ) (k : ℕ) → length ivs ≡ δ → before ivs xs k ≡ back δ (unit ivs) (unit xs) (suc k)
-back-is-before δ ivs xs k len =
+back_is_before : (δ : ℕ) (ivs xs : List ℕ) (k : ℕ) → length ivs ≡ δ → before ivs xs k ≡ back δ (unit ivs) (unit xs) (suc k)
+back_is_before δ ivs xs k len =
     ⊎_elim
-    (λ l. before-early ivs xs k (omega arith) ∙ sym (back_early δ (unit ivs) (unit xs) (suc k) (omega arith)))
+    (λ l. before_early ivs xs k (omega arith) ∙ sym (back_early δ (unit ivs) (unit xs) (suc k) (omega arith)))
     (λ l. let e : δ + (k - δ) ≡ k = omega arith in
-    before-late ivs xs k (k - δ) (omega arith) ∙ sym (back-late δ (unit ivs) (unit xs) k (k - δ) e))
+    before_late ivs xs k (k - δ) (omega arith) ∙ sym (back_late δ (unit ivs) (unit xs) k (k - δ) e))
     (cases_lt k δ)
 
 -- the input blocks and the output blocks, numbered
@@ -47,66 +47,66 @@ module _ (w δ : ℕ) (ivs cs : List ℕ) (len : length ivs ≡ δ) (pos : 0 < �
   abbrev Obeys : ℕ → Type 0
   Obeys i = inputs w ivs cs i ≡ input w δ (unit ivs) (unit cs) (inputs w ivs cs) i
 
-  input-early : (k : ℕ) → k < δ → Obeys (suc k)
-  input-early k l = register-early w ivs cs k (omega arith) ∙ sym (cond-true (leb (suc k) δ) _ _ (le-leb (suc k) δ (omega arith)))
+  input_early : (k : ℕ) → k < δ → Obeys (suc k)
+  input_early k l = register_early w ivs cs k (omega arith) ∙ sym (cond-true (leb (suc k) δ) _ _ (le-leb (suc k) δ (omega arith)))
 
-  input-late : (k : ℕ) → δ ≤ k → Obeys (suc k)
-  input-late zero l = absurd (omega arith)
-  input-late (suc k) l =
+  input_late : (k : ℕ) → δ ≤ k → Obeys (suc k)
+  input_late zero l = absurd (omega arith)
+  input_late (suc k) l =
       let e : length ivs + (suc k - δ) ≡ suc k = omega arith in
       let i : suc (suc k) - 1 ≡ suc k = omega arith in
       let j : suc (suc k) - δ ≡ suc (suc k - δ) = omega arith in
-      register-late w ivs cs k (omega arith)
-      ∙ ap (shifted w (register w ivs cs k)) (before-late ivs cs (suc k) (suc k - δ) e ∙ ap (unit cs) (sym j))
+      register_late w ivs cs k (omega arith)
+      ∙ ap (shifted w (register w ivs cs k)) (before_late ivs cs (suc k) (suc k - δ) e ∙ ap (unit cs) (sym j))
       ∙ ap (λ x. shifted w (inputs w ivs cs x) (unit cs (suc (suc k) - δ))) (sym i)
       ∙ sym (cond-false (leb (suc (suc k)) δ) _ _ (lt-leb (suc (suc k)) δ (omega arith)))
 
-  inputs-obey : (n : ℕ) → Up-to n Obeys
-  inputs-obey n = up_to n Obeys (λ k _. ⊎_elim (input-early k) (input-late k) (cases_lt k δ))
+  inputs_obey : (n : ℕ) → UpTo n Obeys
+  inputs_obey n = up_to n Obeys (λ k _. ⊎_elim (input_early k) (input_late k) (cases_lt k δ))
 
   -- no other input blocks obey
-  inputs-only : (I : ℕ → ℕ) (n : ℕ) → Up-to n (λ i. I i ≡ input w δ (unit ivs) (unit cs) I i) → (k : ℕ) → k < n → I (suc k) ≡ register w ivs cs k
-  inputs-only I n h zero l =
-      h 1 (omega arith) (omega arith) ∙ cond-true (leb 1 δ) _ _ (le-leb 1 δ (omega arith)) ∙ sym (register-early w ivs cs 0 (omega arith))
-  inputs-only I n h (suc k) l =
+  inputs_only : (I : ℕ → ℕ) (n : ℕ) → UpTo n (λ i. I i ≡ input w δ (unit ivs) (unit cs) I i) → (k : ℕ) → k < n → I (suc k) ≡ register w ivs cs k
+  inputs_only I n h zero l =
+      h 1 (omega arith) (omega arith) ∙ cond-true (leb 1 δ) _ _ (le-leb 1 δ (omega arith)) ∙ sym (register_early w ivs cs 0 (omega arith))
+  inputs_only I n h (suc k) l =
       let i : suc (suc k) - 1 ≡ suc k = omega arith in
       let last : I (suc (suc k) - 1) ≡ inputs w ivs cs (suc (suc k) - 1) =
-      ap I i ∙ inputs-only I n h k (omega arith) ∙ ap (inputs w ivs cs) (sym i) in
+      ap I i ∙ inputs_only I n h k (omega arith) ∙ ap (inputs w ivs cs) (sym i) in
       h (suc (suc k)) (omega arith) (omega arith)
       ∙ ap (λ x. cond (leb (suc (suc k)) δ) (unit ivs (suc (suc k))) (shifted w x (unit cs (suc (suc k) - δ)))) last
-      ∙ sym (inputs-obey (suc (suc k)) (suc (suc k)) (omega arith) (omega arith))
+      ∙ sym (inputs_obey (suc (suc k)) (suc (suc k)) (omega arith) (omega arith))
 
 abbrev outputs : (ℕ → ℕ) → List ℕ → ℕ → ℕ
 outputs F ivs zero = 0
 outputs F ivs (suc k) = output F ivs k
 
-outputs-obey : (F : ℕ → ℕ) (δ : ℕ) (ivs : List ℕ) (n : ℕ) → length ivs ≡ δ → 0 < δ
-    → Up-to n (λ i. outputs F ivs i ≡ F (back δ (unit ivs) (outputs F ivs) i))
-outputs-obey F δ ivs n len pos =
+outputs_obey : (F : ℕ → ℕ) (δ : ℕ) (ivs : List ℕ) (n : ℕ) → length ivs ≡ δ → 0 < δ
+    → UpTo n (λ i. outputs F ivs i ≡ F (back δ (unit ivs) (outputs F ivs) i))
+outputs_obey F δ ivs n len pos =
     up_to n _
     (λ k _. ap F
     (⊎_elim
-    (λ l. before-early ivs (stream F ivs k) k (omega arith) ∙ sym (back_early δ (unit ivs) (outputs F ivs) (suc k) (omega arith)))
+    (λ l. before_early ivs (stream F ivs k) k (omega arith) ∙ sym (back_early δ (unit ivs) (outputs F ivs) (suc k) (omega arith)))
     (λ l. let e : δ + (k - δ) ≡ k = omega arith in
-    before-late ivs (stream F ivs k) k (k - δ) (omega arith)
-    ∙ grown-at (λ os i. F (before ivs os i)) k (k - δ) (omega arith)
-    ∙ sym (back-late δ (unit ivs) (outputs F ivs) k (k - δ) e))
+    before_late ivs (stream F ivs k) k (k - δ) (omega arith)
+    ∙ grown_at (λ os i. F (before ivs os i)) k (k - δ) (omega arith)
+    ∙ sym (back_late δ (unit ivs) (outputs F ivs) k (k - δ) e))
     (cases_lt k δ)))
 
 -- no other output blocks obey
-outputs-only : (F : ℕ → ℕ) (δ : ℕ) (ivs : List ℕ) (O : ℕ → ℕ) (n : ℕ) → length ivs ≡ δ → 0 < δ → Up-to n (λ i. O i ≡ F (back δ (unit ivs) O i))
+outputs_only : (F : ℕ → ℕ) (δ : ℕ) (ivs : List ℕ) (O : ℕ → ℕ) (n : ℕ) → length ivs ≡ δ → 0 < δ → UpTo n (λ i. O i ≡ F (back δ (unit ivs) O i))
     → (k : ℕ) → k ≤ n → (i : ℕ) → i < k → O (suc i) ≡ output F ivs i
-outputs-only F δ ivs O n len pos h zero hk i l = absurd (omega arith)
-outputs-only F δ ivs O n len pos h (suc k) hk i l =
+outputs_only F δ ivs O n len pos h zero hk i l = absurd (omega arith)
+outputs_only F δ ivs O n len pos h (suc k) hk i l =
     h (suc i) (omega arith) (omega arith)
     ∙ ap F
     (⊎_elim
     (λ a. back_early δ (unit ivs) O (suc i) (omega arith) ∙ sym (back_early δ (unit ivs) (outputs F ivs) (suc i) (omega arith)))
     (λ a. let e : δ + (i - δ) ≡ i = omega arith in
-    back-late δ (unit ivs) O i (i - δ) e ∙ outputs-only F δ ivs O n len pos h k (omega arith) (i - δ) (omega arith)
-    ∙ sym (back-late δ (unit ivs) (outputs F ivs) i (i - δ) e))
+    back_late δ (unit ivs) O i (i - δ) e ∙ outputs_only F δ ivs O n len pos h k (omega arith) (i - δ) (omega arith)
+    ∙ sym (back_late δ (unit ivs) (outputs F ivs) i (i - δ) e))
     (cases_lt i δ))
-    ∙ sym (outputs-obey F δ ivs (suc i) len pos (suc i) (omega arith) (omega arith))
+    ∙ sym (outputs_obey F δ ivs (suc i) len pos (suc i) (omega arith) (omega arith))
 
 -- the equations of one mode, place by place
 
@@ -116,37 +116,37 @@ module _ (F G : ℕ → ℕ) (w δ : ℕ) (ivs : List ℕ) (len : length ivs ≡
 
   enciphers : (f : Family) → Fit f w δ → Ciphered f → Enciphers f F w δ (unit ivs) (unit ps) (unit cs) n
   enciphers Codebook fit h = up_to n _ h
-  enciphers Chaining fit h = up_to n _ (λ k l. h k l ∙ ap (λ x. F (bit_xor (get_or ps k 0) x)) (back-is-before δ ivs cs k len))
-  enciphers CipherFeedback fit h = (inputs w ivs cs, (inputs-obey w δ ivs cs len fit.1 n, up_to n _ h))
-  enciphers OutputFeedback fit h = (outputs F ivs, (outputs-obey F δ ivs n len fit.1, up_to n _ h))
+  enciphers Chaining fit h = up_to n _ (λ k l. h k l ∙ ap (λ x. F (bit_xor (get_or ps k 0) x)) (back_is_before δ ivs cs k len))
+  enciphers CipherFeedback fit h = (inputs w ivs cs, (inputs_obey w δ ivs cs len fit.1 n, up_to n _ h))
+  enciphers OutputFeedback fit h = (outputs F ivs, (outputs_obey F δ ivs n len fit.1, up_to n _ h))
 
-  enciphered-by : (f : Family) → Fit f w δ → Enciphers f F w δ (unit ivs) (unit ps) (unit cs) n → Ciphered f
-  enciphered-by Codebook fit h k l = h (suc k) (omega arith) (omega arith)
-  enciphered-by Chaining fit h k l =
-      h (suc k) (omega arith) (omega arith) ∙ ap (λ x. F (bit_xor (get_or ps k 0) x)) (sym (back-is-before δ ivs cs k len))
-  enciphered-by CipherFeedback fit h k l =
+  enciphered_by : (f : Family) → Fit f w δ → Enciphers f F w δ (unit ivs) (unit ps) (unit cs) n → Ciphered f
+  enciphered_by Codebook fit h k l = h (suc k) (omega arith) (omega arith)
+  enciphered_by Chaining fit h k l =
+      h (suc k) (omega arith) (omega arith) ∙ ap (λ x. F (bit_xor (get_or ps k 0) x)) (sym (back_is_before δ ivs cs k len))
+  enciphered_by CipherFeedback fit h k l =
       h.1.1 (suc k) (omega arith) (omega arith)
-      ∙ ap (λ x. bit_xor (get_or ps k 0) (leftmost w (F x))) (inputs-only w δ ivs cs len fit.1 h.0 n h.1.0 k l)
-  enciphered-by OutputFeedback fit h k l =
+      ∙ ap (λ x. bit_xor (get_or ps k 0) (leftmost w (F x))) (inputs_only w δ ivs cs len fit.1 h.0 n h.1.0 k l)
+  enciphered_by OutputFeedback fit h k l =
       h.1.1 (suc k) (omega arith) (omega arith)
-      ∙ ap (bit_xor (get_or ps k 0)) (outputs-only F δ ivs h.0 n len fit.1 h.1.0 n (omega arith) k l)
+      ∙ ap (bit_xor (get_or ps k 0)) (outputs_only F δ ivs h.0 n len fit.1 h.1.0 n (omega arith) k l)
 
   abbrev Plain : Family → Type 0
   Plain f = (k : ℕ) → k < n → get_or ps k 0 ≡ plain F G f w ivs cs k (get_or cs k 0)
 
   deciphers : (f : Family) → Fit f w δ → Plain f → Deciphers f F G w δ (unit ivs) (unit ps) (unit cs) n
   deciphers Codebook fit h = up_to n _ h
-  deciphers Chaining fit h = up_to n _ (λ k l. h k l ∙ ap (bit_xor (G (get_or cs k 0))) (back-is-before δ ivs cs k len))
+  deciphers Chaining fit h = up_to n _ (λ k l. h k l ∙ ap (bit_xor (G (get_or cs k 0))) (back_is_before δ ivs cs k len))
   deciphers CipherFeedback fit h = enciphers CipherFeedback fit (λ k l. unmasked (get_or ps k 0) (get_or cs k 0) (leftmost w (F (register w ivs cs k))) (h k l))
   deciphers OutputFeedback fit h = enciphers OutputFeedback fit (λ k l. unmasked (get_or ps k 0) (get_or cs k 0) (output F ivs k) (h k l))
 
-  deciphered-by : (f : Family) → Fit f w δ → Deciphers f F G w δ (unit ivs) (unit ps) (unit cs) n → Plain f
-  deciphered-by Codebook fit h k l = h (suc k) (omega arith) (omega arith)
-  deciphered-by Chaining fit h k l =
-      h (suc k) (omega arith) (omega arith) ∙ ap (bit_xor (G (get_or cs k 0))) (sym (back-is-before δ ivs cs k len))
-  deciphered-by CipherFeedback fit h k l =
-      unmasked (get_or cs k 0) (get_or ps k 0) (leftmost w (F (register w ivs cs k))) (enciphered-by CipherFeedback fit h k l)
-  deciphered-by OutputFeedback fit h k l = unmasked (get_or cs k 0) (get_or ps k 0) (output F ivs k) (enciphered-by OutputFeedback fit h k l)
+  deciphered_by : (f : Family) → Fit f w δ → Deciphers f F G w δ (unit ivs) (unit ps) (unit cs) n → Plain f
+  deciphered_by Codebook fit h k l = h (suc k) (omega arith) (omega arith)
+  deciphered_by Chaining fit h k l =
+      h (suc k) (omega arith) (omega arith) ∙ ap (bit_xor (G (get_or cs k 0))) (sym (back_is_before δ ivs cs k len))
+  deciphered_by CipherFeedback fit h k l =
+      unmasked (get_or cs k 0) (get_or ps k 0) (leftmost w (F (register w ivs cs k))) (enciphered_by CipherFeedback fit h k l)
+  deciphered_by OutputFeedback fit h k l = unmasked (get_or cs k 0) (get_or ps k 0) (output F ivs k) (enciphered_by OutputFeedback fit h k l)
 
 pub equations : Equations
 equations F G m ivs us len =
@@ -157,11 +157,11 @@ equations F G m ivs us len =
     let cs = enciphered F f w ivs us n in
     let ps = deciphered F G f w ivs us n in
     record {
-      sends = enciphers F G w δ ivs len us cs n f (fit m) (λ k l. enciphered-at F f w δ ivs us n k (fit m) len l);
-      sends-only = λ xs lx h. enciphered-only F f w δ ivs us xs n (fit m) len lx (enciphered-by F G w δ ivs len us xs n f (fit m) h);
-      receives = deciphers F G w δ ivs len ps us n f (fit m) (λ k l. grown-at (λ _ i. plain F G f w ivs us i (get_or us i 0)) n k l);
-      receives-only = λ xs lx h.
-          ext_get_or 0 xs ps (lx ∙ sym (length-grown (λ _ i. plain F G f w ivs us i (get_or us i 0)) n))
-          (λ k l. deciphered-by F G w δ ivs len xs us n f (fit m) h k (omega arith)
-          ∙ sym (grown-at (λ _ i. plain F G f w ivs us i (get_or us i 0)) n k (omega arith)));
+      sends = enciphers F G w δ ivs len us cs n f (fit m) (λ k l. enciphered_at F f w δ ivs us n k (fit m) len l);
+      sends_only = λ xs lx h. enciphered_only F f w δ ivs us xs n (fit m) len lx (enciphered_by F G w δ ivs len us xs n f (fit m) h);
+      receives = deciphers F G w δ ivs len ps us n f (fit m) (λ k l. grown_at (λ _ i. plain F G f w ivs us i (get_or us i 0)) n k l);
+      receives_only = λ xs lx h.
+          ext_get_or 0 xs ps (lx ∙ sym (length_grown (λ _ i. plain F G f w ivs us i (get_or us i 0)) n))
+          (λ k l. deciphered_by F G w δ ivs len xs us n f (fit m) h k (omega arith)
+          ∙ sym (grown_at (λ _ i. plain F G f w ivs us i (get_or us i 0)) n k (omega arith)));
     }

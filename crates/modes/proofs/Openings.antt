@@ -9,102 +9,102 @@ use Rattle.modes.specs.declared.values.InitialValues.{InitialValues}
 use Rattle.modes.specs.declared.values.InitialValues.TheVariants.{Empty, One, Three}
 use Rattle.modes.specs.Table.{row}
 use Rattle.cipher.specs.Bytes.{block_at}
-use Rattle.modes.specs.Values.{listed, blocksIn, areBlocks, suits, Units, Begins}
-use Rattle.modes.proofs.Fits.{codes-name-modes, code-is-byte}
-use Rattle.modes.specs.Orders.{opened, openedBy, Orders-are-answers, Same-opening-same-order}
+use Rattle.modes.specs.Values.{listed, blocks_in, are_blocks, suits, Units, Begins}
+use Rattle.modes.proofs.Fits.{codes_name_modes, code_is_byte}
+use Rattle.modes.specs.Orders.{opened, opened_by, OrdersAreAnswers, SameOpeningSameOrder}
 
 -- what the type of an order says of its values
 
-pub are-blocks : (vs : List ℕ) → areBlocks vs ≡ true → Units 64 vs
-are-blocks [] e k l = absurd (omega arith)
-are-blocks (v ∷ vs) e zero l = ltb-true v (2 ^ 64) (and_parts _ _ e).0
-are-blocks (v ∷ vs) e (suc k) l = are-blocks vs (and_parts _ _ e).1 k (omega arith)
+pub each_is_block : (vs : List ℕ) → are_blocks vs ≡ true → Units 64 vs
+each_is_block [] e k l = absurd (omega arith)
+each_is_block (v ∷ vs) e zero l = ltb-true v (2 ^ 64) (and_parts _ _ e).0
+each_is_block (v ∷ vs) e (suc k) l = each_is_block vs (and_parts _ _ e).1 k (omega arith)
 
-pub suits-begins : (m : Mode) (values : InitialValues) → suits m values ≡ true → Begins m (listed values)
-suits-begins m values e =
-    let p = and_parts (eqb (length (listed values)) (row m).values) (areBlocks (listed values)) e in
-    record { count = eqb-true _ _ p.0; blocks = are-blocks (listed values) p.1 }
+pub suits_begins : (m : Mode) (values : InitialValues) → suits m values ≡ true → Begins m (listed values)
+suits_begins m values e =
+    let p = and_parts (eqb (length (listed values)) (row m).values) (are_blocks (listed values)) e in
+    record { count = eqb-true _ _ p.0; blocks = each_is_block (listed values) p.1 }
 
 -- the bytes of a block, the highest first
 
-eight-digits : (v : ℕ) → v < 2 ^ 64
+eight_digits : (v : ℕ) → v < 2 ^ 64
     → v / 2 ^ 56 % 2 ^ 8 * 2 ^ 56 + v / 2 ^ 48 % 2 ^ 8 * 2 ^ 48 + v / 2 ^ 40 % 2 ^ 8 * 2 ^ 40 + v / 2 ^ 32 % 2 ^ 8 * 2 ^ 32
     + v / 2 ^ 24 % 2 ^ 8 * 2 ^ 24 + v / 2 ^ 16 % 2 ^ 8 * 2 ^ 16 + v / 2 ^ 8 % 2 ^ 8 * 2 ^ 8 + v % 2 ^ 8 ≡ v
-eight-digits v h = omega arith
+eight_digits v h = omega arith
 
-low-bytes : (xs : List ℕ) (k : ℕ) → get_or (map (λ x. x % 2 ^ 8) xs) k 0 < 2 ^ 8
-low-bytes [] k = lit< tt
-low-bytes (x ∷ xs) zero = mod_below x (2 ^ 8) (lit< tt)
-low-bytes (x ∷ xs) (suc k) = low-bytes xs k
+low_bytes : (xs : List ℕ) (k : ℕ) → get_or (map (λ x. x % 2 ^ 8) xs) k 0 < 2 ^ 8
+low_bytes [] k = lit< tt
+low_bytes (x ∷ xs) zero = mod_below x (2 ^ 8) (lit< tt)
+low_bytes (x ∷ xs) (suc k) = low_bytes xs k
 
 -- the bytes that open a mode with given values
 
 abbrev digits : ℕ → List ℕ → List ℕ
 digits v rest = v / 2 ^ 56 ∷ v / 2 ^ 48 ∷ v / 2 ^ 40 ∷ v / 2 ^ 32 ∷ v / 2 ^ 24 ∷ v / 2 ^ 16 ∷ v / 2 ^ 8 ∷ v ∷ rest
 
-abbrev digitsOf : InitialValues → List ℕ
-digitsOf Empty = []
-digitsOf (One a) = digits a []
-digitsOf (Three a b c) = digits a (digits b (digits c []))
+abbrev digits_of : InitialValues → List ℕ
+digits_of Empty = []
+digits_of (One a) = digits a []
+digits_of (Three a b c) = digits a (digits b (digits c []))
 
 abbrev bytes_of : InitialValues → List ℕ
-bytes_of values = map (λ x. x % 2 ^ 8) (digitsOf values)
+bytes_of values = map (λ x. x % 2 ^ 8) (digits_of values)
 
-length-bytes : (values : InitialValues) → length (bytes_of values) ≡ 8 * length (listed values)
-length-bytes Empty = refl
-length-bytes (One a) = refl
-length-bytes (Three a b c) = refl
+length_bytes : (values : InitialValues) → length (bytes_of values) ≡ 8 * length (listed values)
+length_bytes Empty = refl
+length_bytes (One a) = refl
+length_bytes (Three a b c) = refl
 
-blocks-in-bytes : (values : InitialValues) → areBlocks (listed values) ≡ true → blocksIn (length (listed values)) (bytes_of values) ≡ listed values
-blocks-in-bytes values e = inside values (are-blocks (listed values) e)
+blocks_in_bytes : (values : InitialValues) → are_blocks (listed values) ≡ true → blocks_in (length (listed values)) (bytes_of values) ≡ listed values
+blocks_in_bytes values e = inside values (each_is_block (listed values) e)
   where
-    inside : (values : InitialValues) → Units 64 (listed values) → blocksIn (length (listed values)) (bytes_of values) ≡ listed values
+    inside : (values : InitialValues) → Units 64 (listed values) → blocks_in (length (listed values)) (bytes_of values) ≡ listed values
     inside Empty h = refl
-    inside (One a) h = ap (λ x. x ∷ []) (eight-digits a (h 0 (lit< tt)))
+    inside (One a) h = ap (λ x. x ∷ []) (eight_digits a (h 0 (lit< tt)))
     inside (Three a b c) h =
-        let ea = eight-digits a (h 0 (lit< tt)) in
-        let eb = eight-digits b (h 1 (lit< tt)) in
-        let ec = eight-digits c (h 2 (lit< tt)) in
+        let ea = eight_digits a (h 0 (lit< tt)) in
+        let eb = eight_digits b (h 1 (lit< tt)) in
+        let ec = eight_digits c (h 2 (lit< tt)) in
         ap (λ x. x ∷ block_at (bytes_of (Three a b c)) 8 ∷ block_at (bytes_of (Three a b c)) 16 ∷ []) ea
         ∙ ap (λ x. a ∷ x ∷ block_at (bytes_of (Three a b c)) 16 ∷ []) eb ∙ ap (λ x. a ∷ b ∷ x ∷ []) ec
 
-opened-by-bytes : (m : Mode) (values : InitialValues) → suits m values ≡ true
+opened_by_bytes : (m : Mode) (values : InitialValues) → suits m values ≡ true
     → opened m (bytes_of values) ≡ Ok (record { mode = m; values = listed values })
-opened-by-bytes m values e =
-    let p = and_parts (eqb (length (listed values)) (row m).values) (areBlocks (listed values)) e in
+opened_by_bytes m values e =
+    let p = and_parts (eqb (length (listed values)) (row m).values) (are_blocks (listed values)) e in
     let n : length (listed values) ≡ (row m).values = eqb-true _ _ p.0 in
-    cond-true _ _ _ (eq-eqb (length (bytes_of values)) (8 * (row m).values) (length-bytes values ∙ ap (λ x. 8 * x) n))
-    ∙ ap (λ x. Ok (record { mode = m; values = x })) (ap (λ x. blocksIn x (bytes_of values)) (sym n) ∙ blocks-in-bytes values p.1)
+    cond-true _ _ _ (eq-eqb (length (bytes_of values)) (8 * (row m).values) (length_bytes values ∙ ap (λ x. 8 * x) n))
+    ∙ ap (λ x. Ok (record { mode = m; values = x })) (ap (λ x. blocks_in x (bytes_of values)) (sym n) ∙ blocks_in_bytes values p.1)
 
-pub orders-are-answers : Orders-are-answers
-orders-are-answers o = (
+pub orders_are_answers : OrdersAreAnswers
+orders_are_answers o = (
   (row o.mode).code,
   bytes_of o.values,
   (
-    code-is-byte o.mode,
-    (λ k _. low-bytes (digitsOf o.values) k),
-    ap (λ x. openedBy x (row o.mode).code (bytes_of o.values)) (codes-name-modes o.mode)
-        ∙ opened-by-bytes o.mode o.values o.suited,
+    code_is_byte o.mode,
+    (λ k _. low_bytes (digits_of o.values) k),
+    ap (λ x. opened_by x (row o.mode).code (bytes_of o.values)) (codes_name_modes o.mode)
+        ∙ opened_by_bytes o.mode o.values o.suited,
   ),
 )
 
 -- an order is what it says
 
-listed-once : (u v : InitialValues) → listed u ≡ listed v → u ≡ v
-listed-once Empty Empty e = refl
-listed-once Empty (One a) e = absurd (omega (arith, ap length e))
-listed-once Empty (Three a b c) e = absurd (omega (arith, ap length e))
-listed-once (One a) Empty e = absurd (omega (arith, ap length e))
-listed-once (One a) (One b) e = cc
-listed-once (One a) (Three b c d) e = absurd (omega (arith, ap length e))
-listed-once (Three a b c) Empty e = absurd (omega (arith, ap length e))
-listed-once (Three a b c) (One d) e = absurd (omega (arith, ap length e))
-listed-once (Three a b c) (Three x y z) e = cc
+listed_once : (u v : InitialValues) → listed u ≡ listed v → u ≡ v
+listed_once Empty Empty e = refl
+listed_once Empty (One a) e = absurd (omega (arith, ap length e))
+listed_once Empty (Three a b c) e = absurd (omega (arith, ap length e))
+listed_once (One a) Empty e = absurd (omega (arith, ap length e))
+listed_once (One a) (One b) e = cc
+listed_once (One a) (Three b c d) e = absurd (omega (arith, ap length e))
+listed_once (Three a b c) Empty e = absurd (omega (arith, ap length e))
+listed_once (Three a b c) (One d) e = absurd (omega (arith, ap length e))
+listed_once (Three a b c) (Three x y z) e = cc
 
-pub same-opening-same-order : Same-opening-same-order
-same-opening-same-order o p e =
+pub same_opening_same_order : SameOpeningSameOrder
+same_opening_same_order o p e =
     let m : o.mode ≡ p.mode = ap (λ x. x.mode) e in
-    let v : o.values ≡ p.values = listed-once o.values p.values (ap (λ x. x.values) e) in
+    let v : o.values ≡ p.values = listed_once o.values p.values (ap (λ x. x.values) e) in
     λ i. record {
       mode = m i;
       values = v i;

@@ -8,81 +8,81 @@ use Rattle.modes.specs.Bits.{shifted}
 use Rattle.modes.specs.Values.{Units}
 use Rattle.modes.specs.Results.{before, register}
 
-pub before-early : (ivs xs : List ℕ) (i : ℕ) → i < length ivs → before ivs xs i ≡ get_or ivs i 0
-before-early ivs xs i h = get_or_append_left ivs xs 0 i h
+pub before_early : (ivs xs : List ℕ) (i : ℕ) → i < length ivs → before ivs xs i ≡ get_or ivs i 0
+before_early ivs xs i h = get_or_append_left ivs xs 0 i h
 
-pub before-late : (ivs xs : List ℕ) (i j : ℕ) → length ivs + j ≡ i → before ivs xs i ≡ get_or xs j 0
-before-late ivs xs i j h = ap (before ivs xs) (sym h) ∙ get_or-append-add ivs xs j 0
+pub before_late : (ivs xs : List ℕ) (i j : ℕ) → length ivs + j ≡ i → before ivs xs i ≡ get_or xs j 0
+before_late ivs xs i j h = ap (before ivs xs) (sym h) ∙ get_or-append-add ivs xs j 0
 
 -- it sees one place of the list
 pub before_same : (ivs xs ys : List ℕ) (i : ℕ) → ((j : ℕ) → length ivs + j ≡ i → get_or xs j 0 ≡ get_or ys j 0) → before ivs xs i ≡ before ivs ys i
 before_same ivs xs ys i h =
     ⊎_elim
-    (λ l. before-early ivs xs i l ∙ sym (before-early ivs ys i l))
+    (λ l. before_early ivs xs i l ∙ sym (before_early ivs ys i l))
     (λ l. let e : length ivs + (i - length ivs) ≡ i = omega arith in
-    before-late ivs xs i (i - length ivs) e ∙ h (i - length ivs) e ∙ sym (before-late ivs ys i (i - length ivs) e))
+    before_late ivs xs i (i - length ivs) e ∙ h (i - length ivs) e ∙ sym (before_late ivs ys i (i - length ivs) e))
     (cases_lt i (length ivs))
 
-pub before-below : (w : ℕ) (ivs xs : List ℕ) (i : ℕ) → Units w ivs → Units w xs → i < length ivs + length xs → before ivs xs i < 2 ^ w
-before-below w ivs xs i hi hx l =
+pub before_below : (w : ℕ) (ivs xs : List ℕ) (i : ℕ) → Units w ivs → Units w xs → i < length ivs + length xs → before ivs xs i < 2 ^ w
+before_below w ivs xs i hi hx l =
     ⊎_elim
-    (λ a. rw (before-early ivs xs i a) (hi i a))
+    (λ a. rw (before_early ivs xs i a) (hi i a))
     (λ a. let e : length ivs + (i - length ivs) ≡ i = omega arith in
-    rw (before-late ivs xs i (i - length ivs) e) (hx (i - length ivs) (omega arith)))
+    rw (before_late ivs xs i (i - length ivs) e) (hx (i - length ivs) (omega arith)))
     (cases_lt i (length ivs))
 
 -- the register
 
-pub register-early : (w : ℕ) (ivs xs : List ℕ) (i : ℕ) → i < length ivs → register w ivs xs i ≡ get_or ivs i 0
-register-early w ivs xs zero l = before-early ivs xs 0 l
-register-early w ivs xs (suc i) l = cond-true _ _ _ (lt-ltb (suc i) (length ivs) l) ∙ before-early ivs xs (suc i) l
+pub register_early : (w : ℕ) (ivs xs : List ℕ) (i : ℕ) → i < length ivs → register w ivs xs i ≡ get_or ivs i 0
+register_early w ivs xs zero l = before_early ivs xs 0 l
+register_early w ivs xs (suc i) l = cond-true _ _ _ (lt-ltb (suc i) (length ivs) l) ∙ before_early ivs xs (suc i) l
 
-pub register-late : (w : ℕ) (ivs xs : List ℕ) (i : ℕ) → length ivs ≤ suc i
+pub register_late : (w : ℕ) (ivs xs : List ℕ) (i : ℕ) → length ivs ≤ suc i
     → register w ivs xs (suc i) ≡ shifted w (register w ivs xs i) (before ivs xs (suc i))
-register-late w ivs xs i l = cond-false _ _ _ (le-ltb (suc i) (length ivs) l)
+register_late w ivs xs i l = cond-false _ _ _ (le-ltb (suc i) (length ivs) l)
 
 -- it sees the places up to the distance before its own
-pub register-same : (w : ℕ) (ivs xs ys : List ℕ) (i : ℕ) → ((j : ℕ) → length ivs + j ≤ i → get_or xs j 0 ≡ get_or ys j 0)
+pub register_same : (w : ℕ) (ivs xs ys : List ℕ) (i : ℕ) → ((j : ℕ) → length ivs + j ≤ i → get_or xs j 0 ≡ get_or ys j 0)
     → register w ivs xs i ≡ register w ivs ys i
-register-same w ivs xs ys zero h = before_same ivs xs ys 0 (λ j e. h j (omega arith))
-register-same w ivs xs ys (suc i) h =
-    let r = register-same w ivs xs ys i (λ j l. h j (omega arith)) in
+register_same w ivs xs ys zero h = before_same ivs xs ys 0 (λ j e. h j (omega arith))
+register_same w ivs xs ys (suc i) h =
+    let r = register_same w ivs xs ys i (λ j l. h j (omega arith)) in
     let b = before_same ivs xs ys (suc i) (λ j e. h j (omega arith)) in
     cc (r, b)
 
-pub register-below : (w : ℕ) (ivs xs : List ℕ) (i : ℕ) → 0 < length ivs → Units 64 ivs → register w ivs xs i < 2 ^ 64
-register-below w ivs xs zero pos h = rw (before-early ivs xs 0 pos) (h 0 pos)
-register-below w ivs xs (suc i) pos h =
+pub register_below : (w : ℕ) (ivs xs : List ℕ) (i : ℕ) → 0 < length ivs → Units 64 ivs → register w ivs xs i < 2 ^ 64
+register_below w ivs xs zero pos h = rw (before_early ivs xs 0 pos) (h 0 pos)
+register_below w ivs xs (suc i) pos h =
     ⊎_elim
-    (λ l. rw (register-early w ivs xs (suc i) l) (h (suc i) l))
-    (λ l. rw (register-late w ivs xs i l) (mod-lt (register w ivs xs i * 2 ^ w + before ivs xs (suc i)) (pow_pos 64)))
+    (λ l. rw (register_early w ivs xs (suc i) l) (h (suc i) l))
+    (λ l. rw (register_late w ivs xs i l) (mod-lt (register w ivs xs i * 2 ^ w + before ivs xs (suc i)) (pow_pos 64)))
     (cases_lt (suc i) (length ivs))
 
 -- the low bits of a register are the units that came in last
 
-mod-low-bits : (n m : ℕ) → m ≤ 64 → n % 2 ^ 64 % 2 ^ m ≡ n % 2 ^ m
-mod-low-bits n m h =
+mod_low_bits : (n m : ℕ) → m ≤ 64 → n % 2 ^ 64 % 2 ^ m ≡ n % 2 ^ m
+mod_low_bits n m h =
     let e : (64 - m) + m ≡ 64 = omega arith in
     let p : n % 2 ^ ((64 - m) + m) ≡ (n / 2 ^ m % 2 ^ (64 - m)) * 2 ^ m + n % 2 ^ m = mod-pow-add n (64 - m) m in
     ap (λ k. n % 2 ^ k % 2 ^ m) (sym e) ∙ ap (λ x. x % 2 ^ m) p ∙ mod_low (n / 2 ^ m % 2 ^ (64 - m)) m (n % 2 ^ m) (mod-lt n (pow_pos m))
 
-shifted-low : (w r c k : ℕ) → c < 2 ^ w → k + w ≤ 64 → shifted w r c % 2 ^ (k + w) ≡ (r % 2 ^ k) * 2 ^ w + c
-shifted-low w r c k h l =
-    mod-low-bits (r * 2 ^ w + c) (k + w) l ∙ mod-pow-add (r * 2 ^ w + c) k w
+shifted_low : (w r c k : ℕ) → c < 2 ^ w → k + w ≤ 64 → shifted w r c % 2 ^ (k + w) ≡ (r % 2 ^ k) * 2 ^ w + c
+shifted_low w r c k h l =
+    mod_low_bits (r * 2 ^ w + c) (k + w) l ∙ mod-pow-add (r * 2 ^ w + c) k w
     ∙ ap (λ x. (x % 2 ^ k) * 2 ^ w + (r * 2 ^ w + c) % 2 ^ w) (shr_high r w c h)
     ∙ ap (λ x. (r % 2 ^ k) * 2 ^ w + x) (mod_low r w c h)
 
 module _ (w d : ℕ) where
   -- one more unit in the low bits
-  low-more : (ivs xs : List ℕ) (a k : ℕ) → length ivs ≡ suc d → get_or xs (a + k) 0 < 2 ^ w → k * w + w ≤ 64
+  low_more : (ivs xs : List ℕ) (a k : ℕ) → length ivs ≡ suc d → get_or xs (a + k) 0 < 2 ^ w → k * w + w ≤ 64
       → register w ivs xs (d + a + suc k) % 2 ^ (suc k * w) ≡ (register w ivs xs (d + a + k) % 2 ^ (k * w)) * 2 ^ w + get_or xs (a + k) 0
-  low-more ivs xs a k len small l =
+  low_more ivs xs a k len small l =
       let i : d + a + suc k ≡ suc (d + a + k) = omega arith in
       let e : length ivs + (a + k) ≡ suc (d + a + k) = omega arith in
       ap (λ x. register w ivs xs x % 2 ^ (suc k * w)) i ∙ ap (λ x. register w ivs xs (suc (d + a + k)) % 2 ^ x) (suc-mul k w)
       ∙ ap (λ x. x % 2 ^ (k * w + w))
-      (register-late w ivs xs (d + a + k) (omega arith) ∙ ap (shifted w (register w ivs xs (d + a + k))) (before-late ivs xs (suc (d + a + k)) (a + k) e))
-      ∙ shifted-low w (register w ivs xs (d + a + k)) (get_or xs (a + k) 0) (k * w) small l
+      (register_late w ivs xs (d + a + k) (omega arith) ∙ ap (shifted w (register w ivs xs (d + a + k))) (before_late ivs xs (suc (d + a + k)) (a + k) e))
+      ∙ shifted_low w (register w ivs xs (d + a + k)) (get_or xs (a + k) 0) (k * w) small l
 
   module _ (ivs ivs' xs ys : List ℕ) (len : length ivs ≡ suc d) (len' : length ivs' ≡ suc d) (a b : ℕ) where
     low_same : (k : ℕ) → ((t : ℕ) → t < k → (get_or xs (a + t) 0 ≡ get_or ys (b + t) 0) × (get_or ys (b + t) 0 < 2 ^ w)) → k * w ≤ 64
@@ -94,27 +94,27 @@ module _ (w d : ℕ) where
         let lw : k * w + w ≤ 64 = omega (arith, suc-mul k w) in
         let ih = low_same k (λ t q. h t (omega arith)) (omega arith) in
         let hk = h k (omega arith) in
-        low-more ivs xs a k len (rw hk.0 hk.1) lw
+        low_more ivs xs a k len (rw hk.0 hk.1) lw
         ∙ ap (λ x. x * 2 ^ w + get_or xs (a + k) 0) ih ∙ ap (λ x. register w ivs' ys (d + b + k) % 2 ^ (k * w) * 2 ^ w + x) hk.0
-        ∙ sym (low-more ivs' ys b k len' hk.1 lw)
+        ∙ sym (low_more ivs' ys b k len' hk.1 lw)
 
     -- as many units in a row as the register holds are the whole register
-    pub register-whole : (q : ℕ) → suc q * w ≡ 64 → ((t : ℕ) → t < suc q → (get_or xs (a + t) 0 ≡ get_or ys (b + t) 0) × (get_or ys (b + t) 0 < 2 ^ w))
+    pub register_whole : (q : ℕ) → suc q * w ≡ 64 → ((t : ℕ) → t < suc q → (get_or xs (a + t) 0 ≡ get_or ys (b + t) 0) × (get_or ys (b + t) 0 < 2 ^ w))
         → register w ivs xs (d + a + suc q) ≡ register w ivs' ys (d + b + suc q)
-    register-whole q m h =
+    register_whole q m h =
         let p = low_same (suc q) h (omega arith) in
         let whole : (jvs zs : List ℕ) (c : ℕ) → length jvs ≡ suc d → register w jvs zs (d + c + suc q) ≡ register w jvs zs (d + c + suc q) % 2 ^ (suc q * w) =
         λ jvs zs c lj.
         let i : d + c + suc q ≡ suc (d + c + q) = omega arith in
-        let late = register-late w jvs zs (d + c + q) (omega arith) in
+        let late = register_late w jvs zs (d + c + q) (omega arith) in
         ap (register w jvs zs) i ∙ late ∙ sym (mod-mod (register w jvs zs (d + c + q) * 2 ^ w + before jvs zs (suc (d + c + q))) (2 ^ 64))
         ∙ ap (λ x. x % 2 ^ 64) (sym late) ∙ ap (λ x. register w jvs zs x % 2 ^ 64) (sym i) ∙ ap (λ x. register w jvs zs (d + c + suc q) % 2 ^ x) (sym m) in
         whole ivs xs a len ∙ p ∙ sym (whole ivs' ys b len')
 
 -- a unit of a whole block is the whole register
-pub register-full : (ivs xs : List ℕ) (d i : ℕ) → 0 < length ivs → length ivs + d ≡ i → get_or xs d 0 < 2 ^ 64 → register 64 ivs xs i ≡ get_or xs d 0
-register-full ivs xs d zero pos e h = absurd (omega arith)
-register-full ivs xs d (suc i) pos e h =
-    register-late 64 ivs xs i (omega arith)
-    ∙ ap (shifted 64 (register 64 ivs xs i)) (before-late ivs xs (suc i) d e)
+pub register_full : (ivs xs : List ℕ) (d i : ℕ) → 0 < length ivs → length ivs + d ≡ i → get_or xs d 0 < 2 ^ 64 → register 64 ivs xs i ≡ get_or xs d 0
+register_full ivs xs d zero pos e h = absurd (omega arith)
+register_full ivs xs d (suc i) pos e h =
+    register_late 64 ivs xs i (omega arith)
+    ∙ ap (shifted 64 (register 64 ivs xs i)) (before_late ivs xs (suc i) d e)
     ∙ mod_low (register 64 ivs xs i) 64 (get_or xs d 0) h

@@ -6,7 +6,7 @@ use Rattle.modes.specs.declared.family.Family.TheVariants.{Codebook, Chaining, C
 use Rattle.modes.specs.declared.way.Way.{Way}
 use Rattle.modes.specs.declared.reach.Reach.{Reach}
 use Rattle.modes.specs.declared.mode.Mode.{Mode}
-use Rattle.modes.specs.Table.{row, memoryOf, reachOf}
+use Rattle.modes.specs.Table.{row, memory_of, reach_of}
 use Rattle.modes.specs.Values.{Units, Begins}
 use Rattle.modes.specs.Results.{results, sent, received}
 
@@ -17,8 +17,8 @@ pub record Ends (F G F' G' : ℕ → ℕ) : Type 0 where
   pub inverse : (b : ℕ) → b < 2 ^ 64 → G' b ≡ G b
 
 -- a list of units gives as many units
-abbrev pub Units-give-units : Type 0
-Units-give-units =
+abbrev pub UnitsGiveUnits : Type 0
+UnitsGiveUnits =
     (F G : ℕ → ℕ) → Undo F G → (m : Mode) (way : Way) (ivs us : List ℕ) → Begins m ivs → Units (row m).width us
     → (length (results F G m way ivs us (length us)) ≡ length us) × Units (row m).width (results F G m way ivs us (length us))
 
@@ -38,16 +38,16 @@ Restoring =
 -- sender's at place i, whatever the initial values of either side
 abbrev pub Recovery : Type 0
 Recovery =
-    (F G F' G' : ℕ → ℕ) → Ends F G F' G' → (m : Mode) (r : ℕ) → memoryOf m ≡ Some r
+    (F G F' G' : ℕ → ℕ) → Ends F G F' G' → (m : Mode) (r : ℕ) → memory_of m ≡ Some r
     → (ivs ivs' ps xs : List ℕ) → Begins m ivs → Begins m ivs' → Units (row m).width ps → Units (row m).width xs
     → (i j : ℕ) → r ≤ i → i < length ps → r ≤ j → j < length xs
     → ((k : ℕ) → k ≤ r → slice_index xs (j - k) ≡ slice_index (sent F G m ivs ps) (i - k))
     → slice_index (received F' G' m ivs' xs) j ≡ slice_index ps i
 
 -- place i lies in the reach of place d
-abbrev pub In-reach : Option Reach → ℕ → ℕ → Type 0
-In-reach None d i = ⊥
-In-reach (Some reach) d i = (d + reach.first ≤ i) × (i ≤ d + reach.last)
+abbrev pub InReach : Option Reach → ℕ → ℕ → Type 0
+InReach None d i = ⊥
+InReach (Some reach) d i = (d + reach.first ≤ i) × (i ≤ d + reach.last)
 
 -- how the plain unit of the altered place is wrong: p is the sender's, q the receiver's, e what was altered
 abbrev pub Struck : Family → ℕ → ℕ → ℕ → Type 0
@@ -65,9 +65,9 @@ Reached OutputFeedback w p q e = ⊥
 
 -- plain units qs received in place of ps, with the ciphered unit of place d altered by e
 pub record Damaged (m : Mode) (ps qs : List ℕ) (d e : ℕ) : Type 0 where
-  pub right : (i : ℕ) → i < length qs → (i ≢ d) → (In-reach (reachOf m) d i → ⊥) → slice_index qs i ≡ slice_index ps i
+  pub right : (i : ℕ) → i < length qs → (i ≢ d) → (InReach (reach_of m) d i → ⊥) → slice_index qs i ≡ slice_index ps i
   pub struck : Struck (row m).family (slice_index ps d) (slice_index qs d) e
-  pub reached : (i : ℕ) → i < length qs → In-reach (reachOf m) d i → Reached (row m).family (row m).width (slice_index ps i) (slice_index qs i) e
+  pub reached : (i : ℕ) → i < length qs → InReach (reach_of m) d i → Reached (row m).family (row m).width (slice_index ps i) (slice_index qs i) e
 
 -- damage: the initial values agree, and the arriving units are the first sent ones in order, with exactly one altered
 abbrev pub Damage : Type 0

@@ -5,7 +5,7 @@ use Rattle.refusals.specs.declared.Refusal.TheVariants.{UnknownCode, InitialValu
 use Rattle.modes.specs.declared.mode.Mode.{Mode}
 use Rattle.modes.specs.declared.order.Order.{Order}
 use Rattle.modes.specs.Table.{row, with_code}
-use Rattle.modes.specs.Values.{listed, blocksIn}
+use Rattle.modes.specs.Values.{listed, blocks_in}
 
 -- what an order says: its mode and its initial values, in their order
 pub record Opening : Type 0 where
@@ -23,23 +23,23 @@ answered (Err e) = Err e
 abbrev pub opened : Mode → List ℕ → Result Opening Refusal
 opened m bytes =
     cond (length bytes == 8 * (row m).values)
-    (Ok (record { mode = m; values = blocksIn (row m).values bytes }))
+    (Ok (record { mode = m; values = blocks_in (row m).values bytes }))
     (Err (InitialValueLength (length bytes)))
 
-abbrev pub openedBy : Option Mode → ℕ → List ℕ → Result Opening Refusal
-openedBy None code bytes = Err (UnknownCode code)
-openedBy (Some m) code bytes = opened m bytes
+abbrev pub opened_by : Option Mode → ℕ → List ℕ → Result Opening Refusal
+opened_by None code bytes = Err (UnknownCode code)
+opened_by (Some m) code bytes = opened m bytes
 
 -- the answer to a code and bytes
 abbrev pub checked : ℕ → List ℕ → Result Opening Refusal
-checked code bytes = openedBy (with_code code) code bytes
+checked code bytes = opened_by (with_code code) code bytes
 
 -- no order exists that checking would not pass: each answers some code and some bytes
-abbrev pub Orders-are-answers : Type 0
-Orders-are-answers =
+abbrev pub OrdersAreAnswers : Type 0
+OrdersAreAnswers =
     (o : Order) → (code : ℕ) × (bytes : List ℕ)
     × ((code < 2 ^ 8) × ((k : ℕ) → k < length bytes → slice_index bytes k < 2 ^ 8) × (checked code bytes ≡ Ok (opening o)))
 
 -- orders that say the same are the same value
-abbrev pub Same-opening-same-order : Type 0
-Same-opening-same-order = (o p : Order) → opening o ≡ opening p → o ≡ p
+abbrev pub SameOpeningSameOrder : Type 0
+SameOpeningSameOrder = (o p : Order) → opening o ≡ opening p → o ≡ p

@@ -26,15 +26,15 @@ abbrev pub drained : ℕ → Option ℕ → ℕ → ℕ
 drained D δ s = cost D δ s + drain D
 
 -- place j may enter in cycle t: its predecessor entered before, and the result at its distance came out before
-pub record May-enter (D : ℕ) (δ : Option ℕ) (j t : ℕ) : Type 0 where
+pub record MayEnter (D : ℕ) (δ : Option ℕ) (j t : ℕ) : Type 0 where
   pub in_order : (i : ℕ) → i + 1 ≡ j → entry D δ i < t
-  pub in-time : (d i : ℕ) → δ ≡ Some d → i + d ≡ j → leaving D δ i < t
+  pub in_time : (d i : ℕ) → δ ≡ Some d → i + d ≡ j → leaving D δ i < t
 
 -- the rule: each place enters in the first cycle in which it may. A stretch ends as its last unit enters, and a drain as its last result
 -- comes out.
 pub record Ruled (D : ℕ) (δ : Option ℕ) (j : ℕ) : Type 0 where
-  pub may : May-enter D δ j (entry D δ j)
-  pub first : (t : ℕ) → May-enter D δ j t → entry D δ j ≤ t
+  pub may : MayEnter D δ j (entry D δ j)
+  pub first : (t : ℕ) → MayEnter D δ j t → entry D δ j ≤ t
   pub ended : cost D δ (j + 1) ≡ entry D δ j + 1
   pub emptied : drained D δ (j + 1) ≡ leaving D δ j + 1
 

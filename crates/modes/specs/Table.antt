@@ -37,19 +37,19 @@ named Ofb = codes "TOFB"
 named OfbInterleaved = codes "TOFB-I"
 
 -- the first of some modes with a code
-abbrev pub firstWith : ℕ → List Mode → Option Mode
-firstWith code [] = None
-firstWith code (m ∷ ms) = cond (code == (row m).code) (Some m) (firstWith code ms)
+abbrev pub first_with : ℕ → List Mode → Option Mode
+first_with code [] = None
+first_with code (m ∷ ms) = cond (code == (row m).code) (Some m) (first_with code ms)
 
 abbrev pub modes : List Mode
 modes = Ecb ∷ Cbc ∷ CbcInterleaved ∷ Cfb64 ∷ Cfb8 ∷ Cfb1 ∷ CfbPipelined64 ∷ CfbPipelined8 ∷ CfbPipelined1 ∷ Ofb ∷ OfbInterleaved ∷ []
 
 abbrev pub with_code : ℕ → Option Mode
-with_code code = firstWith code modes
+with_code code = first_with code modes
 
 -- each mode has a code that names it and no other
-abbrev pub Codes-name-modes : Type 0
-Codes-name-modes = (m : Mode) → with_code (row m).code ≡ Some m
+abbrev pub CodesNameModes : Type 0
+CodesNameModes = (m : Mode) → with_code (row m).code ≡ Some m
 
 -- how far back the result lies that a unit waits for: a unit that is enciphered joins the ciphered unit δ before it, and in
 -- output feedback each way needs the output block δ before
@@ -79,8 +79,8 @@ reach OutputFeedback w δ = None
 abbrev pub distance_of : Mode → Way → Option ℕ
 distance_of m way = distance (row m).family way (row m).values
 
-abbrev pub memoryOf : Mode → Option ℕ
-memoryOf m = memory (row m).family (row m).width (row m).values
+abbrev pub memory_of : Mode → Option ℕ
+memory_of m = memory (row m).family (row m).width (row m).values
 
-abbrev pub reachOf : Mode → Option Reach
-reachOf m = reach (row m).family (row m).width (row m).values
+abbrev pub reach_of : Mode → Option Reach
+reach_of m = reach (row m).family (row m).width (row m).values

@@ -1,9 +1,9 @@
 //! The eleven modes and the table of their figures.
 ghost use Rattle.std.specs.Prelude.{◌≡◌, ◌^◌, ◌<◌, ◌≤◌, Some, ◌≢◌, nat_lt};
-ghost use Rattle.modes.specs.Table.{row, with_code, named, distance_of, memoryOf, reachOf, Codes-name-modes};
+ghost use Rattle.modes.specs.Table.{row, with_code, named, distance_of, memory_of, reach_of, CodesNameModes};
 ghost use Rattle.modes.specs.Bits.{leftmost, shifted};
 ghost use Rattle.modes.specs.Equations.{Equations};
-ghost use Rattle.modes.specs.Laws.{Units-give-units, Prefix, Restoring, Recovery, Damage};
+ghost use Rattle.modes.specs.Laws.{UnitsGiveUnits, Prefix, Restoring, Recovery, Damage};
 ghost use Rattle.modes.specs.Schedule.{Schedule};
 
 use super::family::Family;
@@ -93,7 +93,7 @@ impl Mode {
     /// The code that names the mode. Each mode has its own.
     pub fn code(self) -> u8
         ensures value { result ≡ (row self).code }
-        ensures naming { Codes-name-modes }
+        ensures naming { CodesNameModes }
     {
         self.row().code
     }
@@ -125,7 +125,7 @@ impl Mode {
     pub fn width(self) -> usize
         ensures value { result ≡ (row self).width }
         ensures within { (0 < result) × (result ≤ 64) }
-        ensures units { Units-give-units }
+        ensures units { UnitsGiveUnits }
         ensures prefix { Prefix }
     {
         self.row().width
@@ -154,7 +154,7 @@ impl Mode {
     /// How many ciphered units before its own a plain unit rests on, so that a receiver recovers once they arrived; none for the
     /// output feedback modes, where a plain unit rests on its place.
     pub fn memory(self) -> Option<usize>
-        ensures value { result ≡ memoryOf self }
+        ensures value { result ≡ memory_of self }
         ensures recovery { Recovery }
     {
         self.family().memory(self.width(), self.initial_values())
@@ -162,7 +162,7 @@ impl Mode {
 
     /// Which plain units behind an altered ciphered unit it can make wrong, besides its own.
     pub fn reach(self) -> Option<Reach>
-        ensures value { result ≡ reachOf self }
+        ensures value { result ≡ reach_of self }
         ensures damage { Damage }
     {
         self.family().reach(self.width(), self.initial_values())

@@ -1,6 +1,6 @@
 //! The initial values of a run, read from bytes.
 ghost use Rattle.std.specs.Prelude.{◌≡◌, length};
-ghost use Rattle.modes.specs.Values.{listed, valuesIn};
+ghost use Rattle.modes.specs.Values.{listed, values_in};
 
 use cipher::Block;
 use cipher::bytes::block_at;
@@ -27,7 +27,7 @@ impl InitialValues {
 
     /// The values that lie in some bytes, eight bytes each, highest byte first; none where the bytes are too few or too many.
     pub(crate) fn read(bytes: &[u8]) -> Option<Self>
-        ensures { result ≡ valuesIn bytes.now }
+        ensures { result ≡ values_in bytes.now }
     {
         match bytes.len() {
             0 => Some(Self::Empty),

@@ -20,19 +20,19 @@ number_of (UnknownDirection direction) = 13
 number_of (DataLength length) = 14
 number_of (PartialUnit length) = 15
 
-abbrev pub detailOf : Refusal → ℕ
-detailOf (KeyLength length) = length
-detailOf (KeyParity index) = index
-detailOf SameKeys = 0
-detailOf (UnknownCode code) = code
-detailOf (InitialValueLength length) = length
-detailOf (OutputLength length) = length
-detailOf (UnitWidth index) = index
-detailOf (UnitLimit left) = left
-detailOf (FieldTruncated offset) = offset
-detailOf (FieldTag offset) = offset
-detailOf (TrailingBytes offset) = offset
-detailOf (FieldLength tag) = tag
-detailOf (UnknownDirection direction) = direction
-detailOf (DataLength length) = length
-detailOf (PartialUnit length) = length
+abbrev pub detail_of : Refusal → ℕ
+detail_of (KeyLength length) = length
+detail_of (KeyParity index) = index
+detail_of SameKeys = 0
+detail_of (UnknownCode code) = code
+detail_of (InitialValueLength length) = length
+detail_of (OutputLength length) = length
+detail_of (UnitWidth index) = index
+detail_of (UnitLimit left) = left
+detail_of (FieldTruncated offset) = offset
+detail_of (FieldTag offset) = offset
+detail_of (TrailingBytes offset) = offset
+detail_of (FieldLength tag) = tag
+detail_of (UnknownDirection direction) = direction
+detail_of (DataLength length) = length
+detail_of (PartialUnit length) = length

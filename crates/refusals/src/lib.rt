@@ -1,7 +1,7 @@
 //! Why a call is refused. Every layer refuses by this one type: a variant for each reason, with the
 //! number and the detail that the user is told.
 ghost use Rattle.std.specs.Prelude.{◌≡◌};
-ghost use Rattle.refusals.specs.Refusals.{number_of, detailOf};
+ghost use Rattle.refusals.specs.Refusals.{number_of, detail_of};
 
 use std::fmt;
 
@@ -65,7 +65,7 @@ impl Refusal {
 
     /// The one number that goes with the reason.
     pub fn detail(self) -> u64
-        ensures { result ≡ detailOf self }
+        ensures { result ≡ detail_of self }
     {
         match self {
             Refusal::KeyLength(length) => length as u64,

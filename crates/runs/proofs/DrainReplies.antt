@@ -10,95 +10,95 @@ use Rattle.modes.specs.declared.mode.Mode.{Mode}
 use Rattle.modes.specs.declared.way.Way.{Way}
 use Rattle.modes.specs.Table.{row, distance_of}
 use Rattle.modes.specs.Values.{listed}
-use Rattle.modes.proofs.Receiving.{length-results}
+use Rattle.modes.proofs.Receiving.{length_results}
 use Rattle.calls.specs.Stretches.{passed, inside}
-use Rattle.calls.specs.Calls.{Answer, gave, refused, Calls, drained, order-of, way_of, taken, stretch}
-use Rattle.calls.specs.Due.{distance-in, inside-in, results-in, refusal-to-drain, due-drain, cycles-passed, Follows}
-use Rattle.calls.proofs.Stretching.{inside-most}
+use Rattle.calls.specs.Calls.{Answer, gave, refused, Calls, drained, order_of, way_of, taken, stretch}
+use Rattle.calls.specs.Due.{distance_in, inside_in, results_in, refusal_to_drain, due_drain, cycles_passed, Follows}
+use Rattle.calls.proofs.Stretching.{inside_most}
 use Rattle.runs.specs.declared.frame.Frame.{Frame}
 use Rattle.runs.specs.Rings.{items}
 use Rattle.runs.specs.Views.{view}
 use Rattle.runs.specs.Steps.{chained, shift, mask_at, View}
-use Rattle.runs.specs.Standing.{Registered, chain-end, Same-engine, Standing}
-use Rattle.runs.specs.Stands.{units-earlier, cycles-earlier, out-in, Stands}
-use Rattle.runs.specs.Handing.{holding, unit-in, Handing, Answered, Drained, Idles}
-use Rattle.runs.proofs.Slots.{slot-none}
-use Rattle.runs.proofs.Onwards.{same-holding}
-use Rattle.runs.proofs.Outputs.{units-are-results}
-use Rattle.runs.proofs.Inside.{all-out}
-use Rattle.runs.proofs.Pumps.{stretch-within, stands-hands}
-use Rattle.runs.proofs.Numbers.{inside-told, stretch-passed}
+use Rattle.runs.specs.Standing.{Registered, chain_end, SameEngine, Standing}
+use Rattle.runs.specs.Stands.{units_earlier, cycles_earlier, out_in, Stands}
+use Rattle.runs.specs.Handing.{holding, unit_in, Handing, Answered, Drained, Idles}
+use Rattle.runs.proofs.Slots.{slot_none}
+use Rattle.runs.proofs.Onwards.{same_holding}
+use Rattle.runs.proofs.Outputs.{units_are_results}
+use Rattle.runs.proofs.Inside.{all_out}
+use Rattle.runs.proofs.Pumps.{stretch_within, stands_hands}
+use Rattle.runs.proofs.Numbers.{inside_told, stretch_passed}
 
 -- which refusal, or none, where n units are inside
 
-pub drain-refuses : (n room k : ℕ) → k ≡ n → room < k → (otherwise : Answer) → refusal-to-drain n room otherwise ≡ refused (OutputLength k)
-drain-refuses n room k e l otherwise = cond-true _ _ _ (lt-ltb room n (omega arith)) ∙ ap (λ j. refused (OutputLength j)) (sym e)
+pub drain_refuses : (n room k : ℕ) → k ≡ n → room < k → (otherwise : Answer) → refusal_to_drain n room otherwise ≡ refused (OutputLength k)
+drain_refuses n room k e l otherwise = cond-true _ _ _ (lt-ltb room n (omega arith)) ∙ ap (λ j. refused (OutputLength j)) (sym e)
 
-pub drain-accepts : (n room : ℕ) → n ≤ room → (otherwise : Answer) → refusal-to-drain n room otherwise ≡ otherwise
-drain-accepts n room l otherwise = cond-false _ _ _ (le-ltb room n l)
+pub drain_accepts : (n room : ℕ) → n ≤ room → (otherwise : Answer) → refusal_to_drain n room otherwise ≡ otherwise
+drain_accepts n room l otherwise = cond-false _ _ _ (le-ltb room n l)
 
-refusal-told : (mach : Machine) (f : Frame) (calls : Calls true) → Stands mach f calls → (room : ℕ) (otherwise : Answer)
-    → refusal-to-drain (inside-in mach.depth calls) room otherwise ≡ refusal-to-drain (length (items f.pending)) room otherwise
-refusal-told mach f calls stands room otherwise = ap (λ n. refusal-to-drain n room otherwise) (sym (inside-told mach f calls stands))
+refusal_told : (mach : Machine) (f : Frame) (calls : Calls true) → Stands mach f calls → (room : ℕ) (otherwise : Answer)
+    → refusal_to_drain (inside_in mach.depth calls) room otherwise ≡ refusal_to_drain (length (items f.pending)) room otherwise
+refusal_told mach f calls stands room otherwise = ap (λ n. refusal_to_drain n room otherwise) (sym (inside_told mach f calls stands))
 
 -- a refusal alters nothing
-pub drain-refused : (mach : Machine) (f : Frame) (xs : List ℕ) (k : ℕ) → k ≡ length (items f.pending) → length xs < k
+pub drain_refused : (mach : Machine) (f : Frame) (xs : List ℕ) (k : ℕ) → k ≡ length (items f.pending) → length xs < k
     → Drained mach mach f f xs xs (Err (OutputLength k))
-drain-refused mach f xs k is small = λ calls stands.
-    let w = stands.at-work in
+drain_refused mach f xs k is small = λ calls stands.
+    let w = stands.at_work in
     let room = length xs in
     let e = OutputLength k in
-    let due : due-drain mach.forward mach.inverse mach.depth calls room ≡ refused e =
-    refusal-told mach f calls stands room _ ∙ drain-refuses (length (items f.pending)) room k is small _ in (
+    let due : due_drain mach.forward mach.inverse mach.depth calls room ≡ refused e =
+    refusal_told mach f calls stands room _ ∙ drain_refuses (length (items f.pending)) room k is small _ in (
       subst (Answered xs xs (Err e)) (sym due) (refl, refl),
       subst (λ a. Stands mach f (drained room a calls)) (sym due)
           (record {
             follows = (sym due, stands.follows);
-            at-work = record { sound = w.sound; mode = w.mode; way = w.way; before = w.before; standing = w.standing };
+            at_work = record { sound = w.sound; mode = w.mode; way = w.way; before = w.before; standing = w.standing };
           }),
     )
 
 -- the units due
-abbrev results-due : Machine → Calls true → List ℕ
-results-due mach calls =
-    results-in mach.forward mach.inverse calls (taken calls) (length (taken calls) - inside-in mach.depth calls) (length (taken calls))
+abbrev results_due : Machine → Calls true → List ℕ
+results_due mach calls =
+    results_in mach.forward mach.inverse calls (taken calls) (length (taken calls) - inside_in mach.depth calls) (length (taken calls))
 
-due-results : (mach : Machine) (f : Frame) (calls : Calls true) → Stands mach f calls → (room : ℕ) → length (items f.pending) ≤ room
-    → due-drain mach.forward mach.inverse mach.depth calls room ≡ gave (results-due mach calls)
-due-results mach f calls stands room large =
-    refusal-told mach f calls stands room _ ∙ drain-accepts (length (items f.pending)) room large _
+due_results : (mach : Machine) (f : Frame) (calls : Calls true) → Stands mach f calls → (room : ℕ) → length (items f.pending) ≤ room
+    → due_drain mach.forward mach.inverse mach.depth calls room ≡ gave (results_due mach calls)
+due_results mach f calls stands room large =
+    refusal_told mach f calls stands room _ ∙ drain_accepts (length (items f.pending)) room large _
 
 -- nor does a drain that finds nothing
-pub drain-none : (mach : Machine) (f : Frame) (xs : List ℕ) → length (items f.pending) ≡ 0 → Drained mach mach f f xs xs (Ok 0)
-drain-none mach f xs nothing = λ calls stands.
-    let w = stands.at-work in
+pub drain_none : (mach : Machine) (f : Frame) (xs : List ℕ) → length (items f.pending) ≡ 0 → Drained mach mach f f xs xs (Ok 0)
+drain_none mach f xs nothing = λ calls stands.
+    let w = stands.at_work in
     let room = length xs in
-    let inside = inside-told mach f calls stands in
-    let none : results-due mach calls ≡ [] =
-    nil_from_length (results-due mach calls)
-    (length-drop (length (taken calls) - inside-in mach.depth calls) _
-    ∙ omega (arith, length-results mach.forward mach.inverse (order-of calls).mode (way_of calls) (listed (order-of calls).values) (taken calls) (length (taken calls)))) in
-    let due : due-drain mach.forward mach.inverse mach.depth calls room ≡ gave [] = due-results mach f calls stands room (omega arith) ∙ ap gave none in (
+    let inside = inside_told mach f calls stands in
+    let none : results_due mach calls ≡ [] =
+    nil_from_length (results_due mach calls)
+    (length-drop (length (taken calls) - inside_in mach.depth calls) _
+    ∙ omega (arith, length_results mach.forward mach.inverse (order_of calls).mode (way_of calls) (listed (order_of calls).values) (taken calls) (length (taken calls)))) in
+    let due : due_drain mach.forward mach.inverse mach.depth calls room ≡ gave [] = due_results mach f calls stands room (omega arith) ∙ ap gave none in (
       subst (Answered xs xs (Ok 0)) (sym due) (refl, refl),
       subst (λ a. Stands mach f (drained room a calls)) (sym due)
           (record {
             follows = (sym due, stands.follows);
-            at-work = record { sound = w.sound; mode = w.mode; way = w.way; before = w.before; standing = w.standing };
+            at_work = record { sound = w.sound; mode = w.mode; way = w.way; before = w.before; standing = w.standing };
           }),
     )
 
 -- once all are out, a new stretch begins
 
-slots-empty : (f g : ℕ → Option ℕ) (a b n : ℕ) → ((k : ℕ) → a ≤ k → f k ≡ None) → ((k : ℕ) → g k ≡ None) → map f (range_with_len a n) ≡ map g (range_with_len b n)
-slots-empty f g a b zero hf hg = refl
-slots-empty f g a b (suc n) hf hg =
+slots_empty : (f g : ℕ → Option ℕ) (a b n : ℕ) → ((k : ℕ) → a ≤ k → f k ≡ None) → ((k : ℕ) → g k ≡ None) → map f (range_with_len a n) ≡ map g (range_with_len b n)
+slots_empty f g a b zero hf hg = refl
+slots_empty f g a b (suc n) hf hg =
     let p = hf a (omega arith) ∙ sym (hg b) in
-    let q = slots-empty f g (a + 1) (b + 1) n (λ k l. hf k (omega arith)) hg in
+    let q = slots_empty f g (a + 1) (b + 1) n (λ k l. hf k (omega arith)) hg in
     cc (p, q)
 
-begins-again : (mach : Machine) (m : Mode) (way : Way) (ivs us : List ℕ) (base s t past : ℕ) (v : View)
+begins_again : (mach : Machine) (m : Mode) (way : Way) (ivs us : List ℕ) (base s t past : ℕ) (v : View)
     → Standing mach m way ivs us base s s t past v → Standing mach m way ivs us (base + s) 0 0 0 (past + t) v
-begins-again mach m way ivs us base s t past v st =
+begins_again mach m way ivs us base s t past v st =
     let D = mach.depth in
     let δ = distance_of m way in
     let F = mach.forward in
@@ -112,11 +112,11 @@ begins-again mach m way ivs us base s t past v st =
       gone = λ j l. absurd (omega arith);
       here = λ l. absurd (omega arith);
       due = λ j l. absurd (omega arith);
-      line = st.line ∙ slots-empty _ _ t 0 (D - 1) (λ k l. slot-none D δ _ s k (λ j q e. omega (arith, st.gone j q))) (λ k. refl);
+      line = st.line ∙ slots_empty _ _ t 0 (D - 1) (λ k l. slot_none D δ _ s k (λ j q e. omega (arith, st.gone j q))) (λ k. refl);
       full = st.full ∙ omega arith;
       masks = st.masks ∙ ap (λ k. map (mask_at F G m way ivs us) (range_with_len (base + s) k)) z
           ∙ ap (λ k. map (mask_at F G m way ivs us) (range_with_len k 0)) e;
-      links = st.links ∙ ap (λ k. drop k (ivs ++ chained F G m way ivs us k)) (ap (λ k. chain-end δ k k) e);
+      links = st.links ∙ ap (λ k. drop k (ivs ++ chained F G m way ivs us k)) (ap (λ k. chain_end δ k k) e);
       registered = subst (λ k. Registered (row m).family (shift F G m way ivs us) k v.register) e st.registered;
       clocked = st.clocked ∙ ap (λ k. k % 2 ^ 64) (omega arith);
     }
@@ -124,82 +124,82 @@ begins-again mach m way ivs us base s t past v st =
 -- all that was inside is out
 module _ (mach : Machine) (places : List (Option ℕ)) (f f' : Frame) (calls : Calls true) (stands : Stands mach f calls) (xs ys : List ℕ) (n : ℕ)
     (hands : Handing (holding mach places) f' calls (taken calls) (stretch calls) n
-    (passed mach.depth (distance-in calls) (stretch calls) + (mach.depth - 1)) xs ys) where
+    (passed mach.depth (distance_in calls) (stretch calls) + (mach.depth - 1)) xs ys) where
   abbrev D : ℕ
   D = mach.depth
 
   abbrev wrote : List ℕ
-  wrote = map (unit-in mach calls (taken calls)) (range_with_len (units-earlier calls + out-in D calls) n)
+  wrote = map (unit_in mach calls (taken calls)) (range_with_len (units_earlier calls + out_in D calls) n)
 
-  everything : out-in D calls + n ≡ stretch calls
+  everything : out_in D calls + n ≡ stretch calls
   everything =
-      let w = hands.at-work in
-      all-out (holding mach places) _ _ _ (taken calls) _ (stretch calls) _ _ _ (view f') w.standing w.sound.deep (omega arith)
+      let w = hands.at_work in
+      all_out (holding mach places) _ _ _ (taken calls) _ (stretch calls) _ _ _ (view f') w.standing w.sound.deep (omega arith)
 
-  wrote-due : wrote ≡ results-due mach calls
-  wrote-due =
-      let whole = stretch-within mach f calls stands in
-      let least = inside-most D (distance-in calls) (stretch calls) in
+  wrote_due : wrote ≡ results_due mach calls
+  wrote_due =
+      let whole = stretch_within mach f calls stands in
+      let least = inside_most D (distance_in calls) (stretch calls) in
       let all = everything in
-      let A : units-earlier calls + out-in D calls ≡ length (taken calls) - inside-in D calls = omega arith in
-      let B : units-earlier calls + out-in D calls + n ≡ length (taken calls) = omega arith in
-      units-are-results mach.forward mach.inverse _ _ _ (taken calls) _ n _ hands.at-work.sound.begins.count B
-      ∙ ap (λ a. results-in mach.forward mach.inverse calls (taken calls) a (length (taken calls))) A
+      let A : units_earlier calls + out_in D calls ≡ length (taken calls) - inside_in D calls = omega arith in
+      let B : units_earlier calls + out_in D calls + n ≡ length (taken calls) = omega arith in
+      units_are_results mach.forward mach.inverse _ _ _ (taken calls) _ n _ hands.at_work.sound.begins.count B
+      ∙ ap (λ a. results_in mach.forward mach.inverse calls (taken calls) a (length (taken calls))) A
 
-  length-wrote : length wrote ≡ n
-  length-wrote = length-map-range_with_len (unit-in mach calls (taken calls)) (units-earlier calls + out-in D calls) n
+  length_wrote : length wrote ≡ n
+  length_wrote = length-map-range_with_len (unit_in mach calls (taken calls)) (units_earlier calls + out_in D calls) n
 
-  answered-wrote : Answered xs ys (Ok n) (gave wrote)
-  answered-wrote = (sym length-wrote, hands.output ∙ ap (λ k. wrote ++ drop k xs) (sym length-wrote))
+  answered_wrote : Answered xs ys (Ok n) (gave wrote)
+  answered_wrote = (sym length_wrote, hands.output ∙ ap (λ k. wrote ++ drop k xs) (sym length_wrote))
 
-  stands-drained : (room : ℕ) (hs : List ℕ) → 0 < length hs → Follows mach.forward mach.inverse D (drained room (gave hs) calls)
+  stands_drained : (room : ℕ) (hs : List ℕ) → 0 < length hs → Follows mach.forward mach.inverse D (drained room (gave hs) calls)
       → Stands (holding mach places) f' (drained room (gave hs) calls)
-  stands-drained room [] some follows = absurd (omega arith)
-  stands-drained room (h ∷ hs) some follows =
-      let w = hands.at-work in
-      let m = (order-of calls).mode in
-      let ivs = listed (order-of calls).values in
+  stands_drained room [] some follows = absurd (omega arith)
+  stands_drained room (h ∷ hs) some follows =
+      let w = hands.at_work in
+      let m = (order_of calls).mode in
+      let ivs = listed (order_of calls).values in
       let s = stretch calls in
-      let t = passed D (distance-in calls) s in
-      let whole = stretch-within mach f calls stands in
-      let eu : units-earlier calls + s ≡ length (taken calls) - 0 = omega arith in
-      let ec : cycles-earlier D calls + (t + (D - 1)) ≡ cycles-passed D calls + (D - 1) - 0 = omega (arith, stretch-passed D calls) in
-      let st = subst (λ k. Standing (holding mach places) m (way_of calls) ivs (taken calls) (units-earlier calls) s k (t + (D - 1)) (cycles-earlier D calls) (view f'))
+      let t = passed D (distance_in calls) s in
+      let whole = stretch_within mach f calls stands in
+      let eu : units_earlier calls + s ≡ length (taken calls) - 0 = omega arith in
+      let ec : cycles_earlier D calls + (t + (D - 1)) ≡ cycles_passed D calls + (D - 1) - 0 = omega (arith, stretch_passed D calls) in
+      let st = subst (λ k. Standing (holding mach places) m (way_of calls) ivs (taken calls) (units_earlier calls) s k (t + (D - 1)) (cycles_earlier D calls) (view f'))
       everything w.standing in
       record {
         follows = follows;
-        at-work = record {
+        at_work = record {
           sound = w.sound;
           mode = w.mode;
           way = w.way;
           before = w.before;
           standing =
               subst (λ k. Standing (holding mach places) m (way_of calls) ivs (taken calls) (length (taken calls) - 0) 0 0 0 k (view f')) ec
-              (subst (λ k. Standing (holding mach places) m (way_of calls) ivs (taken calls) k 0 0 0 (cycles-earlier D calls + (t + (D - 1))) (view f')) eu
-              (begins-again (holding mach places) m (way_of calls) ivs (taken calls) (units-earlier calls) s (t + (D - 1)) (cycles-earlier D calls) (view f') st));
+              (subst (λ k. Standing (holding mach places) m (way_of calls) ivs (taken calls) k 0 0 0 (cycles_earlier D calls + (t + (D - 1))) (view f')) eu
+              (begins_again (holding mach places) m (way_of calls) ivs (taken calls) (units_earlier calls) s (t + (D - 1)) (cycles_earlier D calls) (view f') st));
         };
       }
 
-pub drain-some : (mach mach' : Machine) (f f' : Frame) (xs ys : List ℕ) (n : ℕ) → Same-engine mach mach' → 0 < length (items f.pending)
+pub drain_some : (mach mach' : Machine) (f f' : Frame) (xs ys : List ℕ) (n : ℕ) → SameEngine mach mach' → 0 < length (items f.pending)
     → length (items f.pending) ≤ length xs → Idles mach mach' f f' (mach.depth - 1) 0 n xs ys → Drained mach mach' f f' xs ys (Ok n)
-drain-some mach mach' f f' xs ys n same some large idles = λ calls stands.
+drain_some mach mach' f f' xs ys n same some large idles = λ calls stands.
     let places = mach'.row in
     let room = length xs in
-    let hands = idles calls (taken calls) xs (stretch calls) _ (stands-hands mach f calls (taken calls) xs stands stands.at-work) in
-    let hs = results-due mach calls in
-    let is = wrote-due mach places f f' calls stands xs ys n hands in
-    let due = due-results mach f calls stands room large in
+    let hands = idles calls (taken calls) xs (stretch calls) _ (stands_hands mach f calls (taken calls) xs stands stands.at_work) in
+    let hs = results_due mach calls in
+    let is = wrote_due mach places f f' calls stands xs ys n hands in
+    let due = due_results mach f calls stands room large in
     let found : 0 < length hs =
     omega (
       arith,
       ap length is,
-      length-wrote mach places f f' calls stands xs ys n hands,
+      length_wrote mach places f f' calls stands xs ys n hands,
       everything mach places f f' calls stands xs ys n hands,
-      inside-told mach f calls stands,
-      inside-most mach.depth (distance-in calls) (stretch calls),
+      inside_told mach f calls stands,
+      inside_most mach.depth (distance_in calls) (stretch calls),
     ) in (
-      subst (Answered xs ys (Ok n)) (ap gave is ∙ sym due) (answered-wrote mach places f f' calls stands xs ys n hands),
+      subst (Answered xs ys (Ok n)) (ap gave is ∙ sym due) (answered_wrote mach places f f' calls stands xs ys n hands),
       subst (λ a. Stands mach' f' (drained room a calls)) (sym due)
-          (subst (λ m. Stands m f' (drained room (gave hs) calls)) (sym (same-holding mach mach' same))
-          (stands-drained mach places f f' calls stands xs ys n hands room hs found (sym due, stands.follows))),
+          (subst (λ m. Stands m f' (drained room (gave hs) calls)) (sym (same_holding mach mach' same))
+          (stands_drained mach places f f' calls stands xs ys n hands room hs found (sym due, stands.follows))),
     )

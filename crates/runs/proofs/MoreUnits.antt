@@ -9,21 +9,21 @@ use Rattle.modes.specs.declared.way.Way.{Way}
 use Rattle.modes.specs.declared.way.Way.TheVariants.{Enciphering, Deciphering}
 use Rattle.modes.specs.Results.{before, register, ciphered, enciphered}
 use Rattle.modes.specs.Table.{row, distance_of}
-use Rattle.modes.proofs.Grown.{grown-same}
-use Rattle.runs.specs.Steps.{input-by, mask-by, direction-by, chained-by, chained, link, shift, result-at, mask_at, View}
-use Rattle.runs.specs.Standing.{Registered, chain-end, Standing}
+use Rattle.modes.proofs.Grown.{grown_same}
+use Rattle.runs.specs.Steps.{input_by, mask_by, direction_by, chained_by, chained, link, shift, result_at, mask_at, View}
+use Rattle.runs.specs.Standing.{Registered, chain_end, Standing}
 use Rattle.runs.proofs.Slots.{slot_same, map_same}
 
-enciphered-more : (F : ℕ → ℕ) (f : Family) (w : ℕ) (ivs us more : List ℕ) (n : ℕ) → n ≤ length us → enciphered F f w ivs us n ≡ enciphered F f w ivs (us ++ more) n
-enciphered-more F f w ivs us more n h =
-    grown-same _ _ n (λ i l. ap (ciphered F f w ivs (enciphered F f w ivs us i) i) (sym (get_or_append_left us more 0 i (omega arith))))
+enciphered_more : (F : ℕ → ℕ) (f : Family) (w : ℕ) (ivs us more : List ℕ) (n : ℕ) → n ≤ length us → enciphered F f w ivs us n ≡ enciphered F f w ivs (us ++ more) n
+enciphered_more F f w ivs us more n h =
+    grown_same _ _ n (λ i l. ap (ciphered F f w ivs (enciphered F f w ivs us i) i) (sym (get_or_append_left us more 0 i (omega arith))))
 
 chained_more : (F : ℕ → ℕ) (f : Family) (w : ℕ) (way : Way) (ivs us more : List ℕ) (n : ℕ) → n ≤ length us
-    → chained-by F f w way ivs us n ≡ chained-by F f w way ivs (us ++ more) n
+    → chained_by F f w way ivs us n ≡ chained_by F f w way ivs (us ++ more) n
 chained_more F Codebook w way ivs us more n h = sym (take-append-le n us more h)
-chained_more F Chaining w Enciphering ivs us more n h = enciphered-more F Chaining w ivs us more n h
+chained_more F Chaining w Enciphering ivs us more n h = enciphered_more F Chaining w ivs us more n h
 chained_more F Chaining w Deciphering ivs us more n h = sym (take-append-le n us more h)
-chained_more F CipherFeedback w Enciphering ivs us more n h = enciphered-more F CipherFeedback w ivs us more n h
+chained_more F CipherFeedback w Enciphering ivs us more n h = enciphered_more F CipherFeedback w ivs us more n h
 chained_more F CipherFeedback w Deciphering ivs us more n h = sym (take-append-le n us more h)
 chained_more F OutputFeedback w way ivs us more n h = refl
 
@@ -31,46 +31,46 @@ module _ (F G : ℕ → ℕ) (m : Mode) (way : Way) (ivs us more : List ℕ) whe
   chain_more : (n : ℕ) → n ≤ length us → chained F G m way ivs us n ≡ chained F G m way ivs (us ++ more) n
   chain_more n h = chained_more F (row m).family (row m).width way ivs us more n h
 
-  unit-more : (i : ℕ) → i < length us → get_or us i 0 ≡ get_or (us ++ more) i 0
-  unit-more i h = sym (get_or_append_left us more 0 i h)
+  unit_more : (i : ℕ) → i < length us → get_or us i 0 ≡ get_or (us ++ more) i 0
+  unit_more i h = sym (get_or_append_left us more 0 i h)
 
-  shift-more : (i : ℕ) → i < length us → shift F G m way ivs us i ≡ shift F G m way ivs (us ++ more) i
-  shift-more i h = ap (λ c. register (row m).width ivs c i) (chain_more i (omega arith))
+  shift_more : (i : ℕ) → i < length us → shift F G m way ivs us i ≡ shift F G m way ivs (us ++ more) i
+  shift_more i h = ap (λ c. register (row m).width ivs c i) (chain_more i (omega arith))
 
-  link-more : (i : ℕ) → i < length us → link F G m way ivs us i ≡ link F G m way ivs (us ++ more) i
-  link-more i h = ap (λ c. before ivs c i) (chain_more i (omega arith))
+  link_more : (i : ℕ) → i < length us → link F G m way ivs us i ≡ link F G m way ivs (us ++ more) i
+  link_more i h = ap (λ c. before ivs c i) (chain_more i (omega arith))
 
-  result-more : (i : ℕ) → i < length us → result-at F G m way ivs us i ≡ result-at F G m way ivs (us ++ more) i
-  result-more i h =
-      let input = input-by (row m).family way in
-      ap (directed F G (direction-by (row m).family way))
-      (ap (λ u. input u (link F G m way ivs us i) (shift F G m way ivs us i)) (unit-more i h)
-      ∙ ap (λ l. input (get_or (us ++ more) i 0) l (shift F G m way ivs us i)) (link-more i h)
-      ∙ ap (λ r. input (get_or (us ++ more) i 0) (link F G m way ivs (us ++ more) i) r) (shift-more i h))
+  result_more : (i : ℕ) → i < length us → result_at F G m way ivs us i ≡ result_at F G m way ivs (us ++ more) i
+  result_more i h =
+      let input = input_by (row m).family way in
+      ap (directed F G (direction_by (row m).family way))
+      (ap (λ u. input u (link F G m way ivs us i) (shift F G m way ivs us i)) (unit_more i h)
+      ∙ ap (λ l. input (get_or (us ++ more) i 0) l (shift F G m way ivs us i)) (link_more i h)
+      ∙ ap (λ r. input (get_or (us ++ more) i 0) (link F G m way ivs (us ++ more) i) r) (shift_more i h))
 
-  mask-more : (i : ℕ) → i < length us → mask_at F G m way ivs us i ≡ mask_at F G m way ivs (us ++ more) i
-  mask-more i h =
-      ap (λ u. mask-by (row m).family way u (link F G m way ivs us i)) (unit-more i h)
-      ∙ ap (mask-by (row m).family way (get_or (us ++ more) i 0)) (link-more i h)
+  mask_more : (i : ℕ) → i < length us → mask_at F G m way ivs us i ≡ mask_at F G m way ivs (us ++ more) i
+  mask_more i h =
+      ap (λ u. mask_by (row m).family way u (link F G m way ivs us i)) (unit_more i h)
+      ∙ ap (mask_by (row m).family way (get_or (us ++ more) i 0)) (link_more i h)
 
-  registered-more : (f : Family) (n r : ℕ) → n ≤ length us → Registered f (shift F G m way ivs us) n r → Registered f (shift F G m way ivs (us ++ more)) n r
-  registered-more Codebook n r h k = tt
-  registered-more Chaining n r h k = tt
-  registered-more CipherFeedback n r h k = λ pos. k pos ∙ shift-more (n - 1) (omega arith)
-  registered-more OutputFeedback n r h k = tt
+  registered_more : (f : Family) (n r : ℕ) → n ≤ length us → Registered f (shift F G m way ivs us) n r → Registered f (shift F G m way ivs (us ++ more)) n r
+  registered_more Codebook n r h k = tt
+  registered_more Chaining n r h k = tt
+  registered_more CipherFeedback n r h k = λ pos. k pos ∙ shift_more (n - 1) (omega arith)
+  registered_more OutputFeedback n r h k = tt
 
-chain-end-most : (δ : Option ℕ) (a b n : ℕ) → a ≤ n → b ≤ n → chain-end δ a b ≤ n
-chain-end-most None a b n p q = p
-chain-end-most (Some δ) a b n p q = q
+chain_end_most : (δ : Option ℕ) (a b n : ℕ) → a ≤ n → b ≤ n → chain_end δ a b ≤ n
+chain_end_most None a b n p q = p
+chain_end_most (Some δ) a b n p q = q
 
-pub standing-more : (mach : Machine) (m : Mode) (way : Way) (ivs us more : List ℕ) (base s h t past : ℕ) (v : View)
+pub standing_more : (mach : Machine) (m : Mode) (way : Way) (ivs us more : List ℕ) (base s h t past : ℕ) (v : View)
     → Standing mach m way ivs us base s h t past v → Standing mach m way ivs (us ++ more) base s h t past v
-standing-more mach m way ivs us more base s h t past v st =
+standing_more mach m way ivs us more base s h t past v st =
     let F = mach.forward in
     let G = mach.inverse in
     let within = st.within in
     let some = st.some in
-    let x = chain-end (distance_of m way) (base + s) (base + h) in
+    let x = chain_end (distance_of m way) (base + s) (base + h) in
     let len = length-append us more in
     record {
       taken = st.taken;
@@ -80,10 +80,10 @@ standing-more mach m way ivs us more base s h t past v st =
       here = st.here;
       due = st.due;
       line = st.line ∙ map_same _ _ t (mach.depth - 1)
-          (λ c _ _. slot_same mach.depth (distance_of m way) _ _ s c (λ j l. result-more F G m way ivs us more (base + j) (omega arith)));
+          (λ c _ _. slot_same mach.depth (distance_of m way) _ _ s c (λ j l. result_more F G m way ivs us more (base + j) (omega arith)));
       full = st.full;
-      masks = st.masks ∙ map_same _ _ (base + h) (s - h) (λ k a b. mask-more F G m way ivs us more k (omega arith));
-      links = st.links ∙ ap (λ c. drop x (ivs ++ c)) (chain_more F G m way ivs us more x (chain-end-most (distance_of m way) (base + s) (base + h) (length us) (omega arith) (omega arith)));
-      registered = registered-more F G m way ivs us more (row m).family (base + s) v.register within st.registered;
+      masks = st.masks ∙ map_same _ _ (base + h) (s - h) (λ k a b. mask_more F G m way ivs us more k (omega arith));
+      links = st.links ∙ ap (λ c. drop x (ivs ++ c)) (chain_more F G m way ivs us more x (chain_end_most (distance_of m way) (base + s) (base + h) (length us) (omega arith) (omega arith)));
+      registered = registered_more F G m way ivs us more (row m).family (base + s) v.register within st.registered;
       clocked = st.clocked;
     }

@@ -2,18 +2,18 @@
 use Rattle.std.proofs.Common.{◌≡◌, ℕ, ◌+◌, refl, ap, ◌∙◌, arith}
 use Rattle.engines.specs.Machines.{Machine}
 use Rattle.runs.specs.declared.frame.Frame.{Frame}
-use Rattle.runs.specs.Standing.{Same-engine}
+use Rattle.runs.specs.Standing.{SameEngine}
 use Rattle.runs.specs.Handing.{holding, Onward}
 
 -- the same machine but for its row is one with another row
-pub same-holding : (mach mach' : Machine) → Same-engine mach mach' → mach' ≡ holding mach mach'.row
-same-holding mach mach' same =
+pub same_holding : (mach mach' : Machine) → SameEngine mach mach' → mach' ≡ holding mach mach'.row
+same_holding mach mach' same =
     ap (λ F. record { forward = F; inverse = mach'.inverse; depth = mach'.depth; row = mach'.row }) same.0
     ∙ ap (λ G. record { forward = mach.forward; inverse = G; depth = mach'.depth; row = mach'.row }) same.1
     ∙ ap (λ D. record { forward = mach.forward; inverse = mach.inverse; depth = D; row = mach'.row }) same.2
 
-pub onward-none : (mach : Machine) (f : Frame) (given : ℕ) → Onward mach mach f f given given 0
-onward-none mach f given = record { engine = (refl, refl, refl); kept = (refl, refl, refl); room = omega arith; count = omega arith }
+pub onward_none : (mach : Machine) (f : Frame) (given : ℕ) → Onward mach mach f f given given 0
+onward_none mach f given = record { engine = (refl, refl, refl); kept = (refl, refl, refl); room = omega arith; count = omega arith }
 
 pub onward_then : (mach mach' mach'' : Machine) (f f' f'' : Frame) (a b c m n : ℕ) → Onward mach mach' f f' a b m → Onward mach' mach'' f' f'' b c n
     → Onward mach mach'' f f'' a c (m + n)

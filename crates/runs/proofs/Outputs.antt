@@ -7,14 +7,14 @@ use Rattle.modes.specs.declared.mode.Mode.{Mode}
 use Rattle.modes.specs.declared.way.Way.{Way}
 use Rattle.modes.specs.Table.{row}
 use Rattle.modes.specs.Results.{results}
-use Rattle.modes.proofs.Receiving.{length-results}
-use Rattle.runs.specs.Steps.{unit-at}
-use Rattle.runs.proofs.UnitsOut.{result-is-unit}
+use Rattle.modes.proofs.Receiving.{length_results}
+use Rattle.runs.specs.Steps.{unit_at}
+use Rattle.runs.proofs.UnitsOut.{result_is_unit}
 
 -- one more is written
-pub output-more : (y : ℕ → ℕ) (a n x : ℕ) (xs ys : List ℕ) → ys ≡ map y (range_with_len a n) ++ drop n xs → n < length ys → x ≡ y (a + n)
+pub output_more : (y : ℕ → ℕ) (a n x : ℕ) (xs ys : List ℕ) → ys ≡ map y (range_with_len a n) ++ drop n xs → n < length ys → x ≡ y (a + n)
     → set ys n x ≡ map y (range_with_len a (n + 1)) ++ drop (n + 1) xs
-output-more y a n x xs ys e h ex =
+output_more y a n x xs ys e h ex =
     let M = map y (range_with_len a n) in
     let len = length-map-range_with_len y a n in
     let l : n < length xs = omega (arith, ap length e, length-append M (drop n xs), length-drop n xs) in
@@ -24,13 +24,13 @@ output-more y a n x xs ys e h ex =
     ∙ sym (ap (λ zs. zs ++ drop (n + 1) xs) (map-range_with_len_more y a n (a + n) refl) ∙ append_assoc M (y (a + n) ∷ []) (drop (n + 1) xs))
 
 -- the units that are handed out from place a on are the results from there on
-pub units-are-results : (F G : ℕ → ℕ) (m : Mode) (way : Way) (ivs us : List ℕ) (a n b : ℕ) → length ivs ≡ (row m).values → a + n ≡ b
-    → map (unit-at F G m way ivs us) (range_with_len a n) ≡ drop a (results F G m way ivs us b)
-units-are-results F G m way ivs us a n b len e =
-    let y = unit-at F G m way ivs us in
+pub units_are_results : (F G : ℕ → ℕ) (m : Mode) (way : Way) (ivs us : List ℕ) (a n b : ℕ) → length ivs ≡ (row m).values → a + n ≡ b
+    → map (unit_at F G m way ivs us) (range_with_len a n) ≡ drop a (results F G m way ivs us b)
+units_are_results F G m way ivs us a n b len e =
+    let y = unit_at F G m way ivs us in
     let rs = results F G m way ivs us b in
     let ln = length-map-range_with_len y a n in
-    let lr = length-results F G m way ivs us b in
+    let lr = length_results F G m way ivs us b in
     ext_get_or 0 (map y (range_with_len a n)) (drop a rs) (ln ∙ sym (length-drop a rs ∙ omega arith))
     (λ i l. get_or-map-range_with_len y a n i (a + i) 0 (omega arith) refl
-    ∙ sym (get_or-drop a rs i 0 ∙ result-is-unit F G m way ivs us b (a + i) len (omega arith)))
+    ∙ sym (get_or-drop a rs i 0 ∙ result_is_unit F G m way ivs us b (a + i) len (omega arith)))

@@ -7,8 +7,8 @@ use Rattle.modes.proofs.Entries.{entry_next}
 use Rattle.runs.specs.Standing.{blocks, slot}
 
 -- units enter in their order, one a cycle at most
-pub entry-order : (D : ℕ) (δ : Option ℕ) (i j : ℕ) → i ≤ j → entry D δ i + (j - i) ≤ entry D δ j
-entry-order D δ i j l = subst (λ k. entry D δ i + (j - i) ≤ entry D δ k) (omega arith) (after (j - i))
+pub entry_order : (D : ℕ) (δ : Option ℕ) (i j : ℕ) → i ≤ j → entry D δ i + (j - i) ≤ entry D δ j
+entry_order D δ i j l = subst (λ k. entry D δ i + (j - i) ≤ entry D δ k) (omega arith) (after (j - i))
   where
     after : (k : ℕ) → entry D δ i + k ≤ entry D δ (i + k)
     after zero = rw (add-zero i) (omega arith)
@@ -17,18 +17,18 @@ entry-order D δ i j l = subst (λ k. entry D δ i + (j - i) ≤ entry D δ k) (
         subst (λ x. entry D δ i + suc k ≤ entry D δ x) e (omega (arith, after k, entry_next D δ (i + k)))
 
 module _ (D : ℕ) (δ : Option ℕ) (y : ℕ → ℕ) where
-  pub slot-none : (s c : ℕ) → ((j : ℕ) → j < s → leaving D δ j ≡ c → ⊥) → slot D δ y s c ≡ None
-  slot-none zero c h = refl
-  slot-none (suc j) c h = cond-false (eqb (leaving D δ j) c) _ _ (ne_eqb _ _ (h j (omega arith))) ∙ slot-none j c (λ k l. h k (omega arith))
+  pub slot_none : (s c : ℕ) → ((j : ℕ) → j < s → leaving D δ j ≡ c → ⊥) → slot D δ y s c ≡ None
+  slot_none zero c h = refl
+  slot_none (suc j) c h = cond-false (eqb (leaving D δ j) c) _ _ (ne_eqb _ _ (h j (omega arith))) ∙ slot_none j c (λ k l. h k (omega arith))
 
   -- no two come out in one cycle
-  pub slot-some : (s h c : ℕ) → h < s → leaving D δ h ≡ c → slot D δ y s c ≡ Some (y h)
-  slot-some zero h c l e = absurd (omega arith)
-  slot-some (suc j) h c l e = ⊎_elim (λ q. older q (slot-some j h c q e)) newest (cases_lt h j)
+  pub slot_some : (s h c : ℕ) → h < s → leaving D δ h ≡ c → slot D δ y s c ≡ Some (y h)
+  slot_some zero h c l e = absurd (omega arith)
+  slot_some (suc j) h c l e = ⊎_elim (λ q. older q (slot_some j h c q e)) newest (cases_lt h j)
     where
       older : h < j → slot D δ y j c ≡ Some (y h) → slot D δ y (suc j) c ≡ Some (y h)
       older q found =
-          let later : leaving D δ j ≡ c → ⊥ = λ z. omega (arith, entry-order D δ h j (omega arith)) in
+          let later : leaving D δ j ≡ c → ⊥ = λ z. omega (arith, entry_order D δ h j (omega arith)) in
           cond-false (eqb (leaving D δ j) c) _ _ (ne_eqb _ _ later) ∙ found
 
       newest : j ≤ h → slot D δ y (suc j) c ≡ Some (y h)
@@ -52,22 +52,22 @@ map_same f g a (suc n) h =
 
 -- how many blocks a row holds as a place joins it, and as it moves on
 
-pub blocks-none : (row : List (Option ℕ)) → blocks (row ++ None ∷ []) ≡ blocks row
-blocks-none [] = refl
-blocks-none (None ∷ row) = blocks-none row
-blocks-none (Some b ∷ row) = ap suc (blocks-none row)
+pub blocks_none : (row : List (Option ℕ)) → blocks (row ++ None ∷ []) ≡ blocks row
+blocks_none [] = refl
+blocks_none (None ∷ row) = blocks_none row
+blocks_none (Some b ∷ row) = ap suc (blocks_none row)
 
-pub blocks-some : (row : List (Option ℕ)) (b : ℕ) → blocks (row ++ Some b ∷ []) ≡ blocks row + 1
-blocks-some [] b = refl
-blocks-some (None ∷ row) b = blocks-some row b
-blocks-some (Some a ∷ row) b = ap suc (blocks-some row b) ∙ omega arith
+pub blocks_some : (row : List (Option ℕ)) (b : ℕ) → blocks (row ++ Some b ∷ []) ≡ blocks row + 1
+blocks_some [] b = refl
+blocks_some (None ∷ row) b = blocks_some row b
+blocks_some (Some a ∷ row) b = ap suc (blocks_some row b) ∙ omega arith
 
-pub blocks-stay : (row : List (Option ℕ)) → get_or row 0 None ≡ None → blocks (drop 1 row) ≡ blocks row
-blocks-stay [] e = refl
-blocks-stay (None ∷ row) e = refl
-blocks-stay (Some b ∷ row) e = absurd (let z : ◌≡◌ {A = ℕ} 0 1 = cc in omega arith)
+pub blocks_stay : (row : List (Option ℕ)) → get_or row 0 None ≡ None → blocks (drop 1 row) ≡ blocks row
+blocks_stay [] e = refl
+blocks_stay (None ∷ row) e = refl
+blocks_stay (Some b ∷ row) e = absurd (let z : ◌≡◌ {A = ℕ} 0 1 = cc in omega arith)
 
-pub blocks-go : (row : List (Option ℕ)) (b : ℕ) → get_or row 0 None ≡ Some b → blocks (drop 1 row) + 1 ≡ blocks row
-blocks-go [] b e = absurd (let z : ◌≡◌ {A = ℕ} 0 1 = cc in omega arith)
-blocks-go (None ∷ row) b e = absurd (let z : ◌≡◌ {A = ℕ} 0 1 = cc in omega arith)
-blocks-go (Some a ∷ row) b e = omega arith
+pub blocks_go : (row : List (Option ℕ)) (b : ℕ) → get_or row 0 None ≡ Some b → blocks (drop 1 row) + 1 ≡ blocks row
+blocks_go [] b e = absurd (let z : ◌≡◌ {A = ℕ} 0 1 = cc in omega arith)
+blocks_go (None ∷ row) b e = absurd (let z : ◌≡◌ {A = ℕ} 0 1 = cc in omega arith)
+blocks_go (Some a ∷ row) b e = omega arith

@@ -8,7 +8,7 @@ use Rattle.modes.specs.declared.order.Order.{Order}
 use Rattle.calls.specs.Calls.{gave, refused, Calls, new, started, fed, drained}
 use Rattle.runs.specs.declared.frame.Frame.{Frame}
 use Rattle.runs.specs.Stands.{Stands}
-use Rattle.runs.specs.Handing.{feed-refusal, refusal-in}
+use Rattle.runs.specs.Handing.{feed_refusal, refusal_in}
 use Rattle.runs.specs.Whole.{in_two}
 
 -- the run took the units us: the feed gave hs and the drain ks, n units in all; xs is the output list before, ys after
@@ -20,17 +20,17 @@ pub record Emptied (mach : Machine) (f : Frame) (calls : Calls true) (us xs ys :
   pub stands : Stands mach f (drained (length xs - length hs) (gave ks) (fed us (length xs) (gave hs) calls))
 
 -- it did, or the feed was refused
-abbrev pub Emptied-unless : Machine → Frame → Calls true → (us xs ys : List ℕ) → Result ℕ Refusal → Type 0
-Emptied-unless mach f calls us xs ys (Ok n) = Emptied mach f calls us xs ys n
-Emptied-unless mach f calls us xs ys (Err e) = (ys ≡ xs) × Stands mach f (fed us (length xs) (refused e) calls)
+abbrev pub EmptiedUnless : Machine → Frame → Calls true → (us xs ys : List ℕ) → Result ℕ Refusal → Type 0
+EmptiedUnless mach f calls us xs ys (Ok n) = Emptied mach f calls us xs ys n
+EmptiedUnless mach f calls us xs ys (Err e) = (ys ≡ xs) × Stands mach f (fed us (length xs) (refused e) calls)
 
 -- whatever calls went before; the drain is never refused
-abbrev pub Fed-empty : (mach mach' : Machine) (f f' : Frame) (us xs ys : List ℕ) → Result ℕ Refusal → Type 0
-Fed-empty mach mach' f f' us xs ys r =
-    (calls : Calls true) → Stands mach f calls → (refusal-in r ≡ feed-refusal f us (length xs)) × Emptied-unless mach' f' calls us xs ys r
+abbrev pub FedEmpty : (mach mach' : Machine) (f f' : Frame) (us xs ys : List ℕ) → Result ℕ Refusal → Type 0
+FedEmpty mach mach' f f' us xs ys r =
+    (calls : Calls true) → Stands mach f calls → (refusal_in r ≡ feed_refusal f us (length xs)) × EmptiedUnless mach' f' calls us xs ys r
 
 -- the same twice, from the start of a new cartridge's run on; count is what the cartridge tells then
-abbrev pub Fed-twice : (mach mach' : Machine) → Frame → (count : ℕ) (first second xs ys : List ℕ) → Result ℕ Refusal → Type 0
-Fed-twice mach mach' f count first second xs ys r =
+abbrev pub FedTwice : (mach mach' : Machine) → Frame → (count : ℕ) (first second xs ys : List ℕ) → Result ℕ Refusal → Type 0
+FedTwice mach mach' f count first second xs ys r =
     (order : Order) (way : Way) → Stands mach f (started order way new)
     → (record { answer = r; count = count; output = ys } ≡ in_two mach order way first second xs) × (mach' ≡ emptied mach)

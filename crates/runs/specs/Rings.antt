@@ -10,6 +10,6 @@ first_of [] = None
 first_of (x ∷ xs) = Some x
 
 -- how many: one or none
-abbrev pub one-if : Option ℕ → ℕ
-one-if None = 0
-one-if (Some x) = 1
+abbrev pub one_if : Option ℕ → ℕ
+one_if None = 0
+one_if (Some x) = 1

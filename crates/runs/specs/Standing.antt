@@ -1,7 +1,7 @@
 -- How an engine's row and a run's memory stand to the units that the run took.
 use Rattle.std.specs.Prelude.{◌≡◌, ℕ, zero, suc, ◌+◌, ◌-◌, ◌%◌, ◌^◌, ◌<◌, ◌≤◌, cond, List, [], ◌∷◌, ◌++◌, map, length, drop, Some, None, Option, ◌==◌, slice_index}
 use Rattle.std.specs.List.{range_with_len}
-use Rattle.engines.specs.Depths.{greatest-depth}
+use Rattle.engines.specs.Depths.{the_greatest_depth}
 use Rattle.engines.specs.Machines.{Machine}
 use Rattle.modes.specs.declared.family.Family.{Family}
 use Rattle.modes.specs.declared.family.Family.TheVariants.{Codebook, Chaining, CipherFeedback, OutputFeedback}
@@ -10,7 +10,7 @@ use Rattle.modes.specs.declared.way.Way.{Way}
 use Rattle.modes.specs.Schedule.{entry, leaving}
 use Rattle.modes.specs.Table.{row, distance_of}
 use Rattle.modes.specs.Values.{Begins}
-use Rattle.runs.specs.Steps.{chained, shift, result-at, mask_at, unit-at, View}
+use Rattle.runs.specs.Steps.{chained, shift, result_at, mask_at, unit_at, View}
 
 -- how many blocks a row holds
 abbrev pub blocks : List (Option ℕ) → ℕ
@@ -31,14 +31,14 @@ Registered CipherFeedback R n r = 0 < n → r ≡ R (n - 1)
 Registered OutputFeedback R n r = Unit {0}
 
 -- how far the chain has come: to the units taken where there is no distance, else to those that are out
-abbrev pub chain-end : Option ℕ → ℕ → ℕ → ℕ
-chain-end None s h = s
-chain-end (Some δ) s h = h
+abbrev pub chain_end : Option ℕ → ℕ → ℕ → ℕ
+chain_end None s h = s
+chain_end (Some δ) s h = h
 
 -- what an engine and an order have
 pub record Sound (mach : Machine) (m : Mode) (ivs : List ℕ) : Type 0 where
   pub deep : 1 ≤ mach.depth
-  pub shallow : mach.depth ≤ greatest-depth
+  pub shallow : mach.depth ≤ the_greatest_depth
   pub begins : Begins m ivs
 
 -- the run took the units us: base of them before this stretch, s in it, of which h are out, in t cycles of the stretch; past cycles went before it
@@ -49,23 +49,23 @@ pub record Standing (mach : Machine) (m : Mode) (way : Way) (ivs us : List ℕ) 
   pub gone : (j : ℕ) → j < h → leaving mach.depth (distance_of m way) j < t
   pub here : h < s → t ≤ leaving mach.depth (distance_of m way) h
   pub due : (j : ℕ) → j < s → entry mach.depth (distance_of m way) j < t
-  pub line : mach.row ≡ map (slot mach.depth (distance_of m way) (λ j. result-at mach.forward mach.inverse m way ivs us (base + j)) s) (range_with_len t (mach.depth - 1))
+  pub line : mach.row ≡ map (slot mach.depth (distance_of m way) (λ j. result_at mach.forward mach.inverse m way ivs us (base + j)) s) (range_with_len t (mach.depth - 1))
   pub full : blocks mach.row ≡ s - h
   pub masks : v.pending ≡ map (mask_at mach.forward mach.inverse m way ivs us) (range_with_len (base + h) (s - h))
-  pub links : v.chain ≡ drop (chain-end (distance_of m way) (base + s) (base + h))
-      (ivs ++ chained mach.forward mach.inverse m way ivs us (chain-end (distance_of m way) (base + s) (base + h)))
+  pub links : v.chain ≡ drop (chain_end (distance_of m way) (base + s) (base + h))
+      (ivs ++ chained mach.forward mach.inverse m way ivs us (chain_end (distance_of m way) (base + s) (base + h)))
   pub registered : Registered (row m).family (shift mach.forward mach.inverse m way ivs us) (base + s) v.register
   pub clocked : v.cycles ≡ (past + t) % 2 ^ 64
 
 -- the same machine but for its row
-abbrev pub Same-engine : Machine → Machine → Type 0
-Same-engine mach mach' = (mach'.forward ≡ mach.forward) × (mach'.inverse ≡ mach.inverse) × (mach'.depth ≡ mach.depth)
+abbrev pub SameEngine : Machine → Machine → Type 0
+SameEngine mach mach' = (mach'.forward ≡ mach.forward) × (mach'.inverse ≡ mach.inverse) × (mach'.depth ≡ mach.depth)
 
 -- after one more cycle, in which r was handed out
 abbrev pub Outcome : Machine → Mode → Way → (ivs us : List ℕ) (base s h t past : ℕ) → View → Option ℕ → Type 0
 Outcome mach m way ivs us base s h t past v None = Standing mach m way ivs us base s h (t + 1) past v
 Outcome mach m way ivs us base s h t past v (Some x) =
-    (h < s) × (x ≡ unit-at mach.forward mach.inverse m way ivs us (base + h)) × Standing mach m way ivs us base s (h + 1) (t + 1) past v
+    (h < s) × (x ≡ unit_at mach.forward mach.inverse m way ivs us (base + h)) × Standing mach m way ivs us base s (h + 1) (t + 1) past v
 
 -- a unit may enter: it is the next, in its cycle, and its partner is out
 pub record Enters (mach : Machine) (m : Mode) (way : Way) (us : List ℕ) (base s h t u : ℕ) : Type 0 where

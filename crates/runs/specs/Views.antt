@@ -1,12 +1,12 @@
 -- What a frame holds, as the steps see it.
 use Rattle.std.specs.Prelude.{◌≡◌, ℕ, ◌<◌, length, Some, None, Option}
 use Rattle.engines.specs.declared.work.Work.{Work}
-use Rattle.engines.specs.Depths.{greatest-depth}
+use Rattle.engines.specs.Depths.{the_greatest_depth}
 use Rattle.modes.specs.declared.mode.Mode.{Mode}
 use Rattle.modes.specs.declared.way.Way.{Way}
 use Rattle.runs.specs.declared.frame.Frame.{Frame}
 use Rattle.runs.specs.Rings.{items}
-use Rattle.runs.specs.Steps.{View, work-of, entered, unit-of, left}
+use Rattle.runs.specs.Steps.{View, work_of, entered, unit_of, left}
 
 abbrev pub view : Frame → View
 view f = record { pending = items f.pending; chain = items f.chain; register = f.register; taken = f.taken; cycles = f.cycles }
@@ -19,10 +19,10 @@ Kept f g = (g.mode ≡ f.mode) × (g.way ≡ f.way) × (g.before ≡ f.before)
 abbrev pub Admitted : Mode → Way → View → View → Option ℕ → Option Work → Type 0
 Admitted m way v v' None work = (work ≡ None) × (v' ≡ v)
 Admitted m way v v' (Some u) work =
-    length v.pending < greatest-depth → length v.chain < greatest-depth → (work ≡ Some (work-of m way v u)) × (v' ≡ entered m way v u)
+    length v.pending < the_greatest_depth → length v.chain < the_greatest_depth → (work ≡ Some (work_of m way v u)) × (v' ≡ entered m way v u)
 
 -- a result or none come out of the engine, and what is handed out
 abbrev pub Released : Mode → Way → View → View → Option ℕ → Option ℕ → Type 0
 Released m way v v' None r = (r ≡ None) × (v' ≡ v)
 Released m way v v' (Some y) r =
-    0 < length v.pending → length v.chain < greatest-depth → (r ≡ Some (unit-of m way v y)) × (v' ≡ left m way v y)
+    0 < length v.pending → length v.chain < the_greatest_depth → (r ≡ Some (unit_of m way v y)) × (v' ≡ left m way v y)

@@ -2,7 +2,7 @@
 pub(crate) mod steps;
 
 ghost use Rattle.std.specs.Prelude.{◌+◌, ◌≤◌};
-ghost use Rattle.calls.specs.Limits.{unit-limit};
+ghost use Rattle.calls.specs.Limits.{unit_limit};
 
 use super::ring::Ring;
 use cipher::Block;
@@ -22,5 +22,5 @@ pub(crate) struct Frame {
     pub(crate) before: usize,
     pub(crate) taken: usize,
     pub(crate) cycles: u64,
-    ghost within: { before + taken ≤ unit-limit },
+    ghost within: { before + taken ≤ unit_limit },
 }

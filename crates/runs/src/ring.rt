@@ -2,7 +2,7 @@
 mod ops;
 
 ghost use Rattle.std.specs.Prelude.{◌<◌, ◌≤◌};
-ghost use Rattle.engines.specs.Depths.{greatest-depth};
+ghost use Rattle.engines.specs.Depths.{the_greatest_depth};
 
 use engines::engine::GREATEST_DEPTH;
 
@@ -12,5 +12,5 @@ pub(crate) struct Ring {
     places: [u64; GREATEST_DEPTH],
     oldest: usize,
     count: usize,
-    ghost within: { (oldest < greatest-depth) × (count ≤ greatest-depth) },
+    ghost within: { (oldest < the_greatest_depth) × (count ≤ the_greatest_depth) },
 }

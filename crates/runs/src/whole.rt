@@ -2,10 +2,10 @@
 ghost use Rattle.std.specs.Prelude.{◌≡◌, ◌+◌, ◌≤◌, length, IfOk};
 ghost use Rattle.engines.specs.Cycles.{emptied};
 ghost use Rattle.modes.specs.declared.way.Way.TheVariants.{Enciphering, Deciphering};
-ghost use Rattle.runs.specs.Standing.{Same-engine};
-ghost use Rattle.runs.specs.Stands.{of-run};
+ghost use Rattle.runs.specs.Standing.{SameEngine};
+ghost use Rattle.runs.specs.Stands.{of_run};
 ghost use Rattle.runs.specs.Whole.{in_two};
-ghost use Rattle.runs.specs.Emptying.{Fed-empty, Fed-twice};
+ghost use Rattle.runs.specs.Emptying.{FedEmpty, FedTwice};
 
 use super::cartridge::Cartridge;
 use super::run::Run;
@@ -19,9 +19,9 @@ fn feed_and_drain<E: Engine, W>(
     units: &[u64],
     out: &mut [u64],
 ) -> Result<usize, Refusal>
-    ensures emptied { of-run Fed-empty E.Engine.machine run.old run.new units.now out.old out.new result }
+    ensures emptied { of_run FedEmpty E.Engine.machine run.old run.new units.now out.old out.new result }
     ensures within { IfOk result (λ n. n ≤ length out.old) }
-    ensures same { Same-engine (E.Engine.machine run.old.engine) (E.Engine.machine run.new.engine) }
+    ensures same { SameEngine (E.Engine.machine run.old.engine) (E.Engine.machine run.new.engine) }
 {
     let given = run.feed(units, out)?;
     let drained = run.drain(&mut out[given..])?;
@@ -35,7 +35,7 @@ fn feed_twice<E: Engine, W>(
     second: &[u64],
     out: &mut [u64],
 ) -> Result<u64, Refusal>
-    ensures { Fed-twice (E.Engine.machine run.old.engine) (E.Engine.machine run.new.engine) run.old.frame (run.new.frame.before + run.new.frame.taken) first.now second.now out.old out.new result }
+    ensures { FedTwice (E.Engine.machine run.old.engine) (E.Engine.machine run.new.engine) run.old.frame (run.new.frame.before + run.new.frame.taken) first.now second.now out.old out.new result }
 {
     let given = feed_and_drain(run, first, out)?;
     feed_and_drain(run, second, &mut out[given..])?;
@@ -49,7 +49,7 @@ fn finish<E: Engine, W: Drop>(
     second: &[u64],
     out: &mut [u64],
 ) -> (Cartridge<E>, Result<u64, Refusal>)
-    ensures { Fed-twice (E.Engine.machine run.engine) (E.Engine.machine result.0.engine) run.frame result.0.count first.now second.now out.old out.new result.1 }
+    ensures { FedTwice (E.Engine.machine run.engine) (E.Engine.machine result.0.engine) run.frame result.0.count first.now second.now out.old out.new result.1 }
 {
     let answer = feed_twice(&mut run, first, second, out);
     (run.close(), answer)

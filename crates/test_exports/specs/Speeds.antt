@@ -3,12 +3,12 @@ use Rattle.std.specs.Prelude.{ℕ, zero, suc, ◌+◌, List, Some, Ok, Err, Resu
 use Rattle.std.specs.Option.{unwrap_or}
 use Rattle.refusals.specs.declared.Refusal.{Refusal}
 use Rattle.cipher.specs.declared.dea.Dea.{Dea}
-use Rattle.cipher.specs.Dea.{triple-dea, triple-dea-inverse}
-use Rattle.cipher.specs.Functions.{forward-of, inverse-of}
+use Rattle.cipher.specs.Dea.{triple_dea, triple_dea_inverse}
+use Rattle.cipher.specs.Functions.{forward_of, inverse_of}
 use Rattle.cipher.specs.Triples.{in_row}
 use Rattle.engines.specs.declared.work.Direction.TheVariants.{Forward}
 use Rattle.engines.specs.Machines.{Machine, answered, turned, resting}
-use Rattle.keys.specs.Loading.{bundle-loaded}
+use Rattle.keys.specs.Loading.{bundle_loaded}
 
 -- n cycles more
 abbrev pub gathered : ℕ → ℕ → Machine → ℕ → ℕ
@@ -22,18 +22,18 @@ summed zero i F all = all
 summed (suc n) i F all = summed n (i + 1) F (bit_xor all (F i))
 
 abbrev pub called : ℕ → ℕ → Dea → Dea → Dea → ℕ → ℕ
-called n i a b c all = summed n i (in_row (forward-of a) (inverse-of b) (forward-of c)) all
+called n i a b c all = summed n i (in_row (forward_of a) (inverse_of b) (forward_of c)) all
 
-abbrev pub by-line : Result (ℕ × ℕ × ℕ) Refusal → ℕ → ℕ
-by-line (Ok ws) n = gathered n 0 (resting (triple-dea ws.0 ws.1 ws.2) (triple-dea-inverse ws.0 ws.1 ws.2) 3) 0
-by-line (Err e) n = 0
+abbrev pub by_line : Result (ℕ × ℕ × ℕ) Refusal → ℕ → ℕ
+by_line (Ok ws) n = gathered n 0 (resting (triple_dea ws.0 ws.1 ws.2) (triple_dea_inverse ws.0 ws.1 ws.2) 3) 0
+by_line (Err e) n = 0
 
-abbrev pub by-calls : Result (ℕ × ℕ × ℕ) Refusal → ℕ → ℕ
-by-calls (Ok ws) n = summed n 0 (triple-dea ws.0 ws.1 ws.2) 0
-by-calls (Err e) n = 0
+abbrev pub by_calls : Result (ℕ × ℕ × ℕ) Refusal → ℕ → ℕ
+by_calls (Ok ws) n = summed n 0 (triple_dea ws.0 ws.1 ws.2) 0
+by_calls (Err e) n = 0
 
-abbrev pub line-gathered : List ℕ → ℕ → ℕ
-line-gathered keys n = by-line (bundle-loaded keys) n
+abbrev pub line_gathered : List ℕ → ℕ → ℕ
+line_gathered keys n = by_line (bundle_loaded keys) n
 
-abbrev pub calls-gathered : List ℕ → ℕ → ℕ
-calls-gathered keys n = by-calls (bundle-loaded keys) n
+abbrev pub calls_gathered : List ℕ → ℕ → ℕ
+calls_gathered keys n = by_calls (bundle_loaded keys) n

@@ -2,7 +2,7 @@
 pub mod speeds;
 
 ghost use Rattle.std.specs.Prelude.{◌≡◌, map, length, replicate};
-ghost use Rattle.test_exports.specs.Exports.{either, answered, blocks-after};
+ghost use Rattle.test_exports.specs.Exports.{either, answered, blocks_after};
 
 use cipher::{Block, Cipher};
 use keys::KeyBundle;
@@ -29,7 +29,7 @@ fn apply_all<C: Cipher>(cipher: &C, inverse: u8, blocks: &mut [Block])
 #[unsafe(no_mangle)]
 pub extern "C" fn hervodig_blocks(keys: &mut [u8], inverse: u8, blocks: &mut [Block]) -> u8
     ensures answer { result ≡ answered keys.old }
-    ensures after { blocks.new ≡ blocks-after inverse keys.old blocks.old }
+    ensures after { blocks.new ≡ blocks_after inverse keys.old blocks.old }
     ensures zeroed { keys.new ≡ replicate (length keys.old) 0 }
 {
     match KeyBundle::load(keys) {

@@ -1,6 +1,6 @@
 //! What the measurements compare: a line that is clocked, and three calls of single DEA in its place.
 ghost use Rattle.std.specs.Prelude.{◌≡◌, length, replicate};
-ghost use Rattle.test_exports.specs.Speeds.{gathered, called, line-gathered, calls-gathered};
+ghost use Rattle.test_exports.specs.Speeds.{gathered, called, line_gathered, calls_gathered};
 
 use cipher::dea::Dea;
 use cipher::{Block, Cipher};
@@ -38,7 +38,7 @@ fn call(first: &Dea, second: &Dea, third: &Dea, times: u64) -> Block
 /// Clocks a line under the bundle so often, and answers what came out, gathered by exclusive or; 0 where the bundle is refused.
 #[unsafe(no_mangle)]
 pub extern "C" fn hervodig_line(keys: &mut [u8], cycles: u64) -> Block
-    ensures value { result ≡ line-gathered keys.old cycles }
+    ensures value { result ≡ line_gathered keys.old cycles }
     ensures zeroed { keys.new ≡ replicate (length keys.old) 0 }
 {
     match KeyBundle::load(keys) {
@@ -54,7 +54,7 @@ pub extern "C" fn hervodig_line(keys: &mut [u8], cycles: u64) -> Block
 /// Calls three ciphers under the bundle so often, and answers the results likewise.
 #[unsafe(no_mangle)]
 pub extern "C" fn hervodig_three_calls(keys: &mut [u8], times: u64) -> Block
-    ensures value { result ≡ calls-gathered keys.old times }
+    ensures value { result ≡ calls_gathered keys.old times }
     ensures zeroed { keys.new ≡ replicate (length keys.old) 0 }
 {
     match KeyBundle::load(keys) {

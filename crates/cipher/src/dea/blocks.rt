@@ -1,9 +1,9 @@
 //! Building single DEA, and a block under it.
 ghost use Rattle.std.specs.Prelude.{◌≡◌};
-ghost use Rattle.cipher.specs.Dea.{dea as deaOf, dea-inverse};
-ghost use Rattle.cipher.specs.Functions.{forward-of, inverse-of};
-ghost use Rattle.cipher.specs.KeySchedule.{round-keys};
-ghost use Rattle.cipher.specs.Feistel.{under-undo};
+ghost use Rattle.cipher.specs.Dea.{dea as deaOf, dea_inverse};
+ghost use Rattle.cipher.specs.Functions.{forward_of, inverse_of};
+ghost use Rattle.cipher.specs.KeySchedule.{round_keys_of};
+ghost use Rattle.cipher.specs.Feistel.{under_undo};
 
 use super::Dea;
 use super::permutations::{enter, leave};
@@ -14,9 +14,9 @@ use crate::{Block, Cipher};
 impl Dea {
     /// Single DEA under a key of 64 bits; the lowest bit of each byte has no effect.
     pub fn new(key: u64) -> Dea
-        ensures keys { result.round_keys ≡ round-keys key }
-        ensures forward { forward-of result ≡ deaOf key }
-        ensures inverse { inverse-of result ≡ dea-inverse key }
+        ensures keys { result.round_keys ≡ round_keys_of key }
+        ensures forward { forward_of result ≡ deaOf key }
+        ensures inverse { inverse_of result ≡ dea_inverse key }
     {
         Dea {
             round_keys: schedule(key),
@@ -26,11 +26,11 @@ impl Dea {
 }
 
 impl Cipher for Dea {
-    ghost forward = { forward-of };
+    ghost forward = { forward_of };
 
-    ghost inverse = { inverse-of };
+    ghost inverse = { inverse_of };
 
-    ghost undo = { λ d. under-undo d.round_keys };
+    ghost undo = { λ d. under_undo d.round_keys };
 
     fn forward(&self, block: Block) -> Block {
         let mut halves = enter(block);

@@ -1,8 +1,8 @@
 //! What is known of the tables: worked values, and the rule of the S boxes.
 ghost use Rattle.std.specs.Prelude.{◌≡◌, ◌<◌, length, if◌then◌else◌, Some, None, nat_lt};
 ghost use Rattle.std.specs.Option.{option_map};
-ghost use Rattle.cipher.specs.Rows.{row as row_of, Each-once};
-ghost use Rattle.cipher.specs.WorkedValues.{worked-values as workedValues, Hold};
+ghost use Rattle.cipher.specs.Rows.{row as row_of, EachOnce};
+ghost use Rattle.cipher.specs.WorkedValues.{worked_value_list as workedValues, Hold};
 
 use super::tables::S_BOXES;
 
@@ -17,7 +17,7 @@ pub fn worked_values() -> usize
 /// Row `row` of the 32 of the S boxes, four to a box; `None` for another number.
 pub fn substitution_row(row: usize) -> Option<&'static [u8]>
     ensures value { option_map (λ s. s.now) result ≡ (if nat_lt row 32 then Some (row_of row) else None) }
-    ensures once { row < 32 → Each-once (row_of row) }
+    ensures once { row < 32 → EachOnce (row_of row) }
 {
     if row < 32 {
         Some(&S_BOXES[row * 16..row * 16 + 16])

@@ -1,6 +1,6 @@
 //! The initial permutation and its inverse, five exchanges each, and the halves between them.
 ghost use Rattle.std.specs.Prelude.{◌≡◌};
-ghost use Rattle.cipher.specs.Rounds.{ip, ip-inverse, halves as halvesOf, crossed};
+ghost use Rattle.cipher.specs.Rounds.{ip, ip_inverse, halves as halvesOf, crossed};
 
 use super::words::exchange;
 
@@ -15,7 +15,7 @@ fn permute(block: u64) -> u64
 }
 
 fn permute_back(block: u64) -> u64
-    ensures { result ≡ ip-inverse block }
+    ensures { result ≡ ip_inverse block }
 {
     let x = exchange(block, 33, 0x5555_5555);
     let x = exchange(x, 24, 0xff00_ff00);
@@ -34,7 +34,7 @@ pub(super) fn enter(block: u64) -> (u32, u32)
 
 /// The block of the halves (L, R) that the last round answers: R goes before L.
 pub(super) fn leave(halves: (u32, u32)) -> u64
-    ensures { result ≡ ip-inverse (crossed halves) }
+    ensures { result ≡ ip_inverse (crossed halves) }
 {
     permute_back((halves.1 as u64) << 32 | halves.0 as u64)
 }

@@ -1,6 +1,6 @@
 //! The key schedule.
 ghost use Rattle.std.specs.Prelude.{◌≡◌, ◌^◌, ◌<◌, ◌≤◌};
-ghost use Rattle.cipher.specs.KeySchedule.{pc1, rotated, step as stepped, pc2, round-keys};
+ghost use Rattle.cipher.specs.KeySchedule.{pc1, rotated, step as stepped, pc2, round_keys_of};
 
 use super::tables::{PC1, PC2, ROTATIONS};
 use super::words::select;
@@ -42,7 +42,7 @@ fn round_key(halves: (u32, u32)) -> u64
 }
 
 pub(super) fn schedule(key: u64) -> [u64; 16]
-    ensures { result ≡ round-keys key }
+    ensures { result ≡ round_keys_of key }
 {
     let mut halves = first_halves(key);
     let mut keys = [0u64; 16];

@@ -1,6 +1,6 @@
 //! Reading fields one after the other.
 ghost use Rattle.std.specs.Prelude.{◌≡◌, true, is_err};
-ghost use Rattle.job_format.specs.Reading.{field_at, found, end-at};
+ghost use Rattle.job_format.specs.Reading.{field_at, found, end_at};
 
 use super::super::tag::Tag;
 use super::{Field, Reader};
@@ -43,7 +43,7 @@ impl<'a> Reader<'a> {
 
     /// That nothing is left. Refused: bytes behind the last field.
     pub fn end(self) -> Result<(), Refusal>
-        ensures { result ≡ end-at self.entry.job.now self.entry.at }
+        ensures { result ≡ end_at self.entry.job.now self.entry.at }
     {
         if self.at < self.job.len() {
             return Err(Refusal::TrailingBytes(self.at));

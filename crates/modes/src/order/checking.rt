@@ -1,7 +1,7 @@
 //! Checking an opening, and what an order tells.
 ghost use Rattle.std.specs.Prelude.{◌≡◌};
 ghost use Rattle.modes.specs.Values.{listed, Begins};
-ghost use Rattle.modes.specs.Orders.{answered, checked, Orders-are-answers, Same-opening-same-order};
+ghost use Rattle.modes.specs.Orders.{answered, checked, OrdersAreAnswers, SameOpeningSameOrder};
 
 use super::super::mode::Mode;
 use super::super::values::InitialValues;
@@ -26,7 +26,7 @@ impl Order {
     /// The mode.
     pub fn mode(self) -> Mode
         ensures value { result ≡ self.mode }
-        ensures law { Orders-are-answers }
+        ensures law { OrdersAreAnswers }
     {
         self.mode
     }
@@ -35,7 +35,7 @@ impl Order {
     pub fn initial_values(self) -> InitialValues
         ensures value { result ≡ self.values }
         ensures suited { Begins self.mode (listed result) }
-        ensures law { Same-opening-same-order }
+        ensures law { SameOpeningSameOrder }
     {
         self.values
     }

@@ -3,7 +3,7 @@ ghost use Rattle.std.specs.Prelude.{◌≡◌, ◌≤◌};
 ghost use Rattle.modes.specs.Values.{listed};
 ghost use Rattle.engines.specs.Cycles.{emptied};
 ghost use Rattle.modes.specs.declared.way.Way.TheVariants.{Enciphering, Deciphering};
-ghost use Rattle.calls.specs.Limits.{unit-limit};
+ghost use Rattle.calls.specs.Limits.{unit_limit};
 ghost use Rattle.calls.specs.Calls.{new as first};
 ghost use Rattle.runs.specs.Rings.{items};
 ghost use Rattle.runs.specs.Stands.{Rests, Started, Fresh};
@@ -48,7 +48,7 @@ impl<E: Engine> Cartridge<E> {
     /// How many units its runs took.
     pub fn count(&self) -> usize
         ensures value { result ≡ self.now.count }
-        ensures within { result ≤ unit-limit }
+        ensures within { result ≤ unit_limit }
     {
         self.count
     }

@@ -1,8 +1,8 @@
 //! One unit's way into the engine and out of it.
 ghost use Rattle.std.specs.Prelude.{◌≡◌, ◌+◌, ◌<◌, ◌≤◌, length, Some};
-ghost use Rattle.calls.specs.Limits.{unit-limit};
-ghost use Rattle.runs.specs.Rings.{items, one-if};
-ghost use Rattle.runs.specs.Steps.{input-by, mask-by, direction-by, register-by, fed-back-by, link-of, shift_from, counted};
+ghost use Rattle.calls.specs.Limits.{unit_limit};
+ghost use Rattle.runs.specs.Rings.{items, one_if};
+ghost use Rattle.runs.specs.Steps.{input_by, mask_by, direction_by, register_by, fed_back_by, link_of, shift_from, counted};
 ghost use Rattle.runs.specs.Views.{view, Kept, Admitted, Released};
 
 use super::Frame;
@@ -13,7 +13,7 @@ use modes::way::Way;
 
 /// What goes into the engine for a unit, where the chain has `link` for it.
 fn input_for(family: Family, way: Way, unit: u64, link: u64, register: Block) -> Block
-    ensures { result ≡ input-by family way unit link register }
+    ensures { result ≡ input_by family way unit link register }
 {
     match (family, way) {
         (Family::Chaining, Way::Enciphering) => unit ^ link,
@@ -25,7 +25,7 @@ fn input_for(family: Family, way: Way, unit: u64, link: u64, register: Block) ->
 
 /// What the result is joined with as it comes out.
 fn mask_for(family: Family, way: Way, unit: u64, link: u64) -> u64
-    ensures { result ≡ mask-by family way unit link }
+    ensures { result ≡ mask_by family way unit link }
 {
     match (family, way) {
         (Family::Chaining, Way::Deciphering) => link,
@@ -35,7 +35,7 @@ fn mask_for(family: Family, way: Way, unit: u64, link: u64) -> u64
 }
 
 fn direction_for(family: Family, way: Way) -> Direction
-    ensures { result ≡ direction-by family way }
+    ensures { result ≡ direction_by family way }
 {
     match (family, way) {
         (Family::Codebook, Way::Deciphering) | (Family::Chaining, Way::Deciphering) =>
@@ -46,7 +46,7 @@ fn direction_for(family: Family, way: Way) -> Direction
 
 /// Only cipher feedback keeps a register.
 fn register_after(family: Family, old: Block, new: Block) -> Block
-    ensures { result ≡ register-by family old new }
+    ensures { result ≡ register_by family old new }
 {
     match family {
         Family::CipherFeedback => new,
@@ -56,7 +56,7 @@ fn register_after(family: Family, old: Block, new: Block) -> Block
 
 /// What goes back into the chain as a result comes out.
 fn fed_back(family: Family, block: Block, unit: u64) -> u64
-    ensures { result ≡ fed-back-by family block unit }
+    ensures { result ≡ fed_back_by family block unit }
 {
     match family {
         Family::OutputFeedback => block,
@@ -67,7 +67,7 @@ fn fed_back(family: Family, block: Block, unit: u64) -> u64
 impl Frame {
     /// What the chain has for the next unit.
     fn link(&self) -> u64
-        ensures { result ≡ link-of self.now.mode self.now.way (view self.now) }
+        ensures { result ≡ link_of self.now.mode self.now.way (view self.now) }
     {
         let place = match self.mode.distance(self.way) {
             Some(_) => self.pending.len(),
@@ -89,7 +89,7 @@ impl Frame {
 
     /// Takes a unit in, and says what goes into the engine for it.
     fn enter(&mut self, unit: u64) -> Work
-        requires { self.old.before + self.old.taken < unit-limit }
+        requires { self.old.before + self.old.taken < unit_limit }
         ensures after { Admitted self.old.mode self.old.way (view self.old) (view self.new) (Some unit) (Some result) }
         ensures same { Kept self.old self.new }
         ensures most { length (items self.new.pending) ≤ length (items self.old.pending) + 1 }
@@ -115,7 +115,7 @@ impl Frame {
     fn leave(&mut self, block: Block) -> Option<u64>
         ensures after { Released self.old.mode self.old.way (view self.old) (view self.new) (Some block) result }
         ensures same { Kept self.old self.new }
-        ensures most { length (items self.new.pending) + one-if result ≤ length (items self.old.pending) }
+        ensures most { length (items self.new.pending) + one_if result ≤ length (items self.old.pending) }
         ensures count { self.new.taken ≡ self.old.taken }
     {
         let mode = self.mode;
@@ -142,11 +142,11 @@ impl Frame {
 
     /// Takes a unit or none in, and says what goes into the engine.
     pub(crate) fn admit(&mut self, unit: Option<u64>) -> Option<Work>
-        requires { self.old.before + self.old.taken + one-if unit ≤ unit-limit }
+        requires { self.old.before + self.old.taken + one_if unit ≤ unit_limit }
         ensures after { Admitted self.old.mode self.old.way (view self.old) (view self.new) unit result }
         ensures same { Kept self.old self.new }
-        ensures most { length (items self.new.pending) ≤ length (items self.old.pending) + one-if unit }
-        ensures count { self.new.taken ≡ self.old.taken + one-if unit }
+        ensures most { length (items self.new.pending) ≤ length (items self.old.pending) + one_if unit }
+        ensures count { self.new.taken ≡ self.old.taken + one_if unit }
     {
         match unit {
             Some(u) => Some(self.enter(u)),
@@ -158,7 +158,7 @@ impl Frame {
     pub(crate) fn release(&mut self, answer: Option<Block>) -> Option<u64>
         ensures after { Released self.old.mode self.old.way (view self.old) (view self.new) answer result }
         ensures same { Kept self.old self.new }
-        ensures most { length (items self.new.pending) + one-if result ≤ length (items self.old.pending) }
+        ensures most { length (items self.new.pending) + one_if result ≤ length (items self.old.pending) }
         ensures count { self.new.taken ≡ self.old.taken }
     {
         match answer {

@@ -1,6 +1,6 @@
 //! Putting in at the end and taking out at the front.
 ghost use Rattle.std.specs.Prelude.{◌≡◌, ◌+◌, ◌<◌, ◌≤◌, [], ◌∷◌, ◌++◌, length, drop, slice_index};
-ghost use Rattle.engines.specs.Depths.{greatest-depth};
+ghost use Rattle.engines.specs.Depths.{the_greatest_depth};
 ghost use Rattle.runs.specs.Rings.{items, first_of};
 ghost use Rattle.runs.specs.Steps.{pushed};
 
@@ -20,7 +20,7 @@ impl Ring {
 
     pub(crate) fn len(&self) -> usize
         ensures value { result ≡ length (items self.now) }
-        ensures most { result ≤ greatest-depth }
+        ensures most { result ≤ the_greatest_depth }
     {
         self.count
     }
@@ -38,8 +38,8 @@ impl Ring {
 
     /// Puts a number in at the end; a full ring stays as it is.
     pub(crate) fn push(&mut self, number: u64)
-        ensures room { length (items self.old) < greatest-depth → items self.new ≡ items self.old ++ number ∷ [] }
-        ensures full { greatest-depth ≤ length (items self.old) → items self.new ≡ items self.old }
+        ensures room { length (items self.old) < the_greatest_depth → items self.new ≡ items self.old ++ number ∷ [] }
+        ensures full { the_greatest_depth ≤ length (items self.old) → items self.new ≡ items self.old }
         ensures most { length (items self.new) ≤ length (items self.old) + 1 }
     {
         if self.count < GREATEST_DEPTH {
@@ -64,7 +64,7 @@ impl Ring {
 
     /// Puts a number in at the end and takes the oldest out.
     pub(crate) fn pass(&mut self, number: u64)
-        ensures { length (items self.old) < greatest-depth → items self.new ≡ pushed (items self.old) number }
+        ensures { length (items self.old) < the_greatest_depth → items self.new ≡ pushed (items self.old) number }
     {
         self.push(number);
         let _ = self.pop();

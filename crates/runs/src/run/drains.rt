@@ -1,8 +1,8 @@
 //! Draining a run.
 ghost use Rattle.std.specs.Prelude.{◌≡◌, ◌≤◌, length, IfOk, OnErr};
 ghost use Rattle.runs.specs.Rings.{items};
-ghost use Rattle.runs.specs.Stands.{of-run};
-ghost use Rattle.runs.specs.Handing.{Drained, drain-refusal, refusal-in, Same};
+ghost use Rattle.runs.specs.Stands.{of_run};
+ghost use Rattle.runs.specs.Handing.{Drained, drain_refusal, refusal_in, Same};
 
 use super::Run;
 use engines::engine::Engine;
@@ -12,12 +12,12 @@ impl<E: Engine, W> Run<E, W> {
     /// Hands out what the engine holds: so many units, first in the list. The run may go on. Refused, and then nothing is
     /// altered: an output list shorter than that.
     pub fn drain(&mut self, out: &mut [u64]) -> Result<usize, Refusal>
-        ensures answered { of-run Drained E.Engine.machine self.old self.new out.old out.new result }
-        ensures refusal { refusal-in result ≡ drain-refusal self.old.frame (length out.old) }
+        ensures answered { of_run Drained E.Engine.machine self.old self.new out.old out.new result }
+        ensures refusal { refusal_in result ≡ drain_refusal self.old.frame (length out.old) }
         ensures within { IfOk result (λ n. n ≤ length out.old) }
         ensures unaltered { OnErr result ((self.new ≡ self.old) × (out.new ≡ out.old)) }
         ensures idle { length (items self.old.frame.pending) ≡ 0 → (self.new ≡ self.old) × (out.new ≡ out.old) }
-        ensures same { of-run Same E.Engine.machine self.old self.new }
+        ensures same { of_run Same E.Engine.machine self.old self.new }
     {
         let inside = self.frame.pending.len();
         if out.len() < inside {

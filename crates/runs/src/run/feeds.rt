@@ -1,11 +1,11 @@
 //! Feeding a run.
 ghost use Rattle.std.specs.Prelude.{◌≡◌, ◌+◌, ◌^◌, ◌≤◌, length, IfOk, OnErr, nat_lt};
 ghost use Rattle.modes.specs.Table.{row};
-ghost use Rattle.calls.specs.Due.{first-wide};
-ghost use Rattle.calls.specs.Limits.{unit-limit};
+ghost use Rattle.calls.specs.Due.{first_wide};
+ghost use Rattle.calls.specs.Limits.{unit_limit};
 ghost use Rattle.runs.specs.Rings.{items};
-ghost use Rattle.runs.specs.Stands.{of-run};
-ghost use Rattle.runs.specs.Handing.{Fed, feed-refusal, refusal-in, Pumps, Onward, Same};
+ghost use Rattle.runs.specs.Stands.{of_run};
+ghost use Rattle.runs.specs.Handing.{Fed, feed_refusal, refusal_in, Pumps, Onward, Same};
 
 use super::Run;
 use calls::UNIT_LIMIT;
@@ -23,7 +23,7 @@ fn is_narrow(mode: Mode, unit: u64) -> bool
 
 /// The index of the first unit that is too wide for the mode.
 fn first_too_wide(mode: Mode, units: &[u64]) -> Option<usize>
-    ensures { result ≡ first-wide (row mode).width 0 units.now }
+    ensures { result ≡ first_wide (row mode).width 0 units.now }
 {
     for (i, unit) in units.iter().enumerate() {
         if !is_narrow(mode, *unit) {
@@ -37,9 +37,9 @@ impl<E: Engine, W> Run<E, W> {
     /// Each unit enters in its cycle, and what comes out is written.
     fn pump(&mut self, units: &[u64], out: &mut [u64]) -> usize
         requires room { length (items self.old.frame.pending) + length units.now ≤ length out.old }
-        requires limit { self.old.frame.before + self.old.frame.taken + length units.now ≤ unit-limit }
-        ensures pumped { of-run Pumps E.Engine.machine self.old self.new units.now (length units.now) result out.old out.new }
-        ensures onward { of-run Onward E.Engine.machine self.old self.new 0 result (length units.now) }
+        requires limit { self.old.frame.before + self.old.frame.taken + length units.now ≤ unit_limit }
+        ensures pumped { of_run Pumps E.Engine.machine self.old self.new units.now (length units.now) result out.old out.new }
+        ensures onward { of_run Onward E.Engine.machine self.old self.new 0 result (length units.now) }
         ensures idle { length units.now ≡ 0 → (result ≡ 0) × (self.new ≡ self.old) × (out.new ≡ out.old) }
     {
         let mut given = 0;
@@ -54,12 +54,12 @@ impl<E: Engine, W> Run<E, W> {
     /// Refused, and then nothing is altered: an output list shorter than the units in the engine and those offered; a unit that
     /// is too wide for the mode; more units than the cartridge still takes.
     pub fn feed(&mut self, units: &[u64], out: &mut [u64]) -> Result<usize, Refusal>
-        ensures answered { of-run Fed E.Engine.machine self.old self.new units.now out.old out.new result }
-        ensures refusal { refusal-in result ≡ feed-refusal self.old.frame units.now (length out.old) }
+        ensures answered { of_run Fed E.Engine.machine self.old self.new units.now out.old out.new result }
+        ensures refusal { refusal_in result ≡ feed_refusal self.old.frame units.now (length out.old) }
         ensures within { IfOk result (λ n. n ≤ length out.old) }
         ensures unaltered { OnErr result ((self.new ≡ self.old) × (out.new ≡ out.old)) }
         ensures idle { length units.now ≡ 0 → (self.new ≡ self.old) × (out.new ≡ out.old) }
-        ensures same { of-run Same E.Engine.machine self.old self.new }
+        ensures same { of_run Same E.Engine.machine self.old self.new }
     {
         let wanted = self.frame.pending.len() + units.len();
         if out.len() < wanted {

@@ -1,9 +1,9 @@
 //! One cycle of a run.
 ghost use Rattle.std.specs.Prelude.{◌≡◌, ◌+◌, ◌≤◌, length};
-ghost use Rattle.calls.specs.Limits.{unit-limit};
-ghost use Rattle.runs.specs.Rings.{items, one-if};
+ghost use Rattle.calls.specs.Limits.{unit_limit};
+ghost use Rattle.runs.specs.Rings.{items, one_if};
 ghost use Rattle.runs.specs.Views.{view, Kept};
-ghost use Rattle.runs.specs.Standing.{Same-engine, Cycled};
+ghost use Rattle.runs.specs.Standing.{SameEngine, Cycled};
 
 use super::Run;
 use engines::engine::Engine;
@@ -11,11 +11,11 @@ use engines::engine::Engine;
 impl<E: Engine, W> Run<E, W> {
     /// One cycle: a unit or none goes in, a unit or none comes out.
     pub(crate) fn cycle(&mut self, unit: Option<u64>) -> Option<u64>
-        requires { self.old.frame.before + self.old.frame.taken + one-if unit ≤ unit-limit }
+        requires { self.old.frame.before + self.old.frame.taken + one_if unit ≤ unit_limit }
         ensures cycled { Cycled (E.Engine.machine self.old.engine) (E.Engine.machine self.new.engine) self.old.frame.mode self.old.frame.way (view self.old.frame) (view self.new.frame) unit result }
-        ensures same { Same-engine (E.Engine.machine self.old.engine) (E.Engine.machine self.new.engine) × Kept self.old.frame self.new.frame }
-        ensures most { length (items self.new.frame.pending) + one-if result ≤ length (items self.old.frame.pending) + one-if unit }
-        ensures count { self.new.frame.taken ≡ self.old.frame.taken + one-if unit }
+        ensures same { SameEngine (E.Engine.machine self.old.engine) (E.Engine.machine self.new.engine) × Kept self.old.frame self.new.frame }
+        ensures most { length (items self.new.frame.pending) + one_if result ≤ length (items self.old.frame.pending) + one_if unit }
+        ensures count { self.new.frame.taken ≡ self.old.frame.taken + one_if unit }
     {
         let input = self.frame.admit(unit);
         let answer = self.engine.clock(input);

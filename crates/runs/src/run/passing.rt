@@ -1,8 +1,8 @@
 //! Cycles one after the other, and the units that come out in them.
 ghost use Rattle.std.specs.Prelude.{◌≡◌, ◌+◌, ◌-◌, ◌≤◌, length};
-ghost use Rattle.calls.specs.Limits.{unit-limit};
-ghost use Rattle.runs.specs.Rings.{items, one-if};
-ghost use Rattle.runs.specs.Stands.{of-run};
+ghost use Rattle.calls.specs.Limits.{unit_limit};
+ghost use Rattle.runs.specs.Rings.{items, one_if};
+ghost use Rattle.runs.specs.Stands.{of_run};
 ghost use Rattle.runs.specs.Handing.{written, Passes, Idles, Waits, Onward};
 
 use super::Run;
@@ -10,9 +10,9 @@ use engines::engine::Engine;
 
 // Writes a unit that came out behind the `given` ones before it, and says how many there are then.
 fn put(out: &mut [u64], given: usize, unit: Option<u64>) -> usize
-    requires { given + one-if unit ≤ length out.old }
+    requires { given + one_if unit ≤ length out.old }
     ensures after { out.new ≡ written out.old given unit }
-    ensures count { result ≡ given + one-if unit }
+    ensures count { result ≡ given + one_if unit }
 {
     match unit {
         Some(x) => {
@@ -26,10 +26,10 @@ fn put(out: &mut [u64], given: usize, unit: Option<u64>) -> usize
 impl<E: Engine, W> Run<E, W> {
     /// One cycle, with a unit or none. What comes out is written behind the `given` units before it; says how many there are then.
     pub(crate) fn pass(&mut self, unit: Option<u64>, out: &mut [u64], given: usize) -> usize
-        requires limit { self.old.frame.before + self.old.frame.taken + one-if unit ≤ unit-limit }
-        requires room { given + length (items self.old.frame.pending) + one-if unit ≤ length out.old }
-        ensures passed { of-run Passes E.Engine.machine self.old self.new unit given result out.old out.new }
-        ensures onward { of-run Onward E.Engine.machine self.old self.new given result (one-if unit) }
+        requires limit { self.old.frame.before + self.old.frame.taken + one_if unit ≤ unit_limit }
+        requires room { given + length (items self.old.frame.pending) + one_if unit ≤ length out.old }
+        ensures passed { of_run Passes E.Engine.machine self.old self.new unit given result out.old out.new }
+        ensures onward { of_run Onward E.Engine.machine self.old self.new given result (one_if unit) }
     {
         let unit = self.cycle(unit);
         put(out, given, unit)
@@ -38,8 +38,8 @@ impl<E: Engine, W> Run<E, W> {
     /// Empty cycles until all that was inside is out, one fewer than the engine is deep.
     pub(crate) fn empty(&mut self, out: &mut [u64]) -> usize
         requires { length (items self.old.frame.pending) ≤ length out.old }
-        ensures emptied { of-run Idles E.Engine.machine self.old self.new ((E.Engine.machine self.old.engine).depth - 1) 0 result out.old out.new }
-        ensures onward { of-run Onward E.Engine.machine self.old self.new 0 result 0 }
+        ensures emptied { of_run Idles E.Engine.machine self.old self.new ((E.Engine.machine self.old.engine).depth - 1) 0 result out.old out.new }
+        ensures onward { of_run Onward E.Engine.machine self.old self.new 0 result 0 }
     {
         let depth = self.engine.depth_of();
         let mut given = 0;
@@ -52,8 +52,8 @@ impl<E: Engine, W> Run<E, W> {
     /// Empty cycles until the result at the next unit's distance is out, which takes fewer than the engine is deep.
     pub(crate) fn wait(&mut self, out: &mut [u64], mut given: usize) -> usize
         requires { given + length (items self.old.frame.pending) ≤ length out.old }
-        ensures waited { of-run Waits E.Engine.machine self.old self.new given result out.old out.new }
-        ensures onward { of-run Onward E.Engine.machine self.old self.new given result 0 }
+        ensures waited { of_run Waits E.Engine.machine self.old self.new given result out.old out.new }
+        ensures onward { of_run Onward E.Engine.machine self.old self.new given result 0 }
     {
         let Some(distance) = self.frame.mode.distance(self.frame.way) else {
             return given;

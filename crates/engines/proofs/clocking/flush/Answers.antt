@@ -1,7 +1,7 @@
 use Rattle.std.proofs.Common.{◌≡◌, ◌-◌, ◌≤◌, length, take, replicate, None, ap, ◌∙◌, arith}
 use Rattle.std.proofs.lemmas.List.{take-replicate}
-use Rattle.engines.specs.Depths.{greatest-depth}
-use Rattle.engines.proofs.ManyCycles.{row-comes-out, row-left-empty}
+use Rattle.engines.specs.Depths.{the_greatest_depth}
+use Rattle.engines.proofs.ManyCycles.{row_comes_out, row_left_empty}
 use Rattle.engines.proofs.clocking.flush.Goals as goal
 
 pub returns : goal.returns
@@ -11,14 +11,14 @@ returns g c =
     let places = g.met.E.Engine.places e in
     let n = c.places-of-places.result - 0 in
     let all : n ≡ length m.row = omega (arith, c.places-of-places.ensures) in
-    let few : n ≤ greatest-depth = omega (arith, g.met.E.Engine.shallow e) in
+    let few : n ≤ the_greatest_depth = omega (arith, g.met.E.Engine.shallow e) in
     let nothing : take n c.empty-inputs-nothing.result ≡ replicate (length m.row) None =
-    ap (take n) c.empty-inputs-nothing.ensures ∙ take-replicate n greatest-depth None few ∙ ap (λ k. replicate k None) all in
+    ap (take n) c.empty-inputs-nothing.ensures ∙ take-replicate n the_greatest_depth None few ∙ ap (λ k. replicate k None) all in
     record {
       written =
-          row-comes-out m (take n c.empty-inputs-nothing.result) c.args.answers.now c.clock-each.new.answers nothing
+          row_comes_out m (take n c.empty-inputs-nothing.result) c.args.answers.now c.clock-each.new.answers nothing
           c.clock-each.ensures.written;
       after =
-          row-left-empty m (g.E.Engine.machine c.clock-each.new.engine) (take n c.empty-inputs-nothing.result) nothing places
+          row_left_empty m (g.E.Engine.machine c.clock-each.new.engine) (take n c.empty-inputs-nothing.result) nothing places
           c.clock-each.ensures.after;
     }

@@ -2,8 +2,8 @@ use Rattle.std.proofs.Common.{◌≡◌, ℕ, ◌+◌, ◌-◌, ◌*◌, ◌<◌
 use borrow.Rule.Slice.PartMut.{put_mid}
 use Rattle.std.proofs.lemmas.List.{take_rest}
 use Rattle.modes.specs.Table.{row}
-use Rattle.job_format.specs.UnitBytes.{eight-bytes, last-bytes}
-use Rattle.job_format.proofs.WrittenOn.{room-for-one, room-for-fewer, without-room, none_written, unit-written, all-written}
+use Rattle.job_format.specs.UnitBytes.{eight_bytes, last_bytes}
+use Rattle.job_format.proofs.WrittenOn.{room_for_one, room_for_fewer, without_room, none_written, unit_written, all_written}
 use Rattle.job_format.proofs.units.write_units.Goals as goal
 use Rattle.job_format.proofs.units.write_units.Goals.{then-at-out-via-then-at-out, then-at-out-via-else-at-out+then-out-at}
 
@@ -12,14 +12,14 @@ too-little-room c =
     elim c.then-at-out.branch [
       | then-at-out-via-then-at-out w ↦ omega (arith, w.if-at-out.true)
       | then-at-out-via-else-at-out+then-out-at w ↦
-          room-for-fewer c.unit-size-size.result (length c.args.units.now) c.args.at (length c.args.out.now) (omega arith)
+          room_for_fewer c.unit-size-size.result (length c.args.units.now) c.args.at (length c.args.out.now) (omega arith)
           w.if-out-at.true
     ]
 
 pub returns-then-at-out : goal.returns-then-at-out
 returns-then-at-out c =
     let short = simp c.unit-size-size.ensures.value at (too-little-room c) in
-    let none = without-room (row c.args.mode).width c.args.units.now c.args.out.now c.args.at short in
+    let none = without_room (row c.args.mode).width c.args.units.now c.args.out.now c.args.at short in
     record { value = none.0; output = none.1 }
 
 pub loop-unit-init : goal.loop-unit-init
@@ -27,7 +27,7 @@ loop-unit-init c = (omega arith, none_written c.args.out.now c.args.at)
 
 next-within : (c : goal.After-to-be-bytes-bytes) → c.loop-unit.end + c.unit-size-size.result ≤ length c.args.out.now
 next-within c =
-    room-for-one c.unit-size-size.result (length c.args.units.now) c.args.at (length c.args.out.now) c.loop-unit.unit-index
+    room_for_one c.unit-size-size.result (length c.args.units.now) c.args.at (length c.args.out.now) c.loop-unit.unit-index
     c.loop-unit.end c.if-at-out.false c.if-out-at.false c.loop-unit-test.true c.loop-unit.invariant.0
 
 pub overflow-add-next : goal.overflow-add-next
@@ -42,17 +42,17 @@ loop-unit-preserved c =
     let i : ℕ = c.loop-unit.unit-index in
     let e : ℕ = c.loop-unit.end in
     let us : List ℕ = c.args.units.now in
-    let rest = take_rest (eight-bytes (get_or us i 0)) (8 - n) in
-    let bytes : c.copy-from-slice.new.self ≡ last-bytes n (get_or us i 0) = cc (c.copy-from-slice.ensures.after, c.to-be-bytes-bytes.ensures) in (
+    let rest = take_rest (eight_bytes (get_or us i 0)) (8 - n) in
+    let bytes : c.copy-from-slice.new.self ≡ last_bytes n (get_or us i 0) = cc (c.copy-from-slice.ensures.after, c.to-be-bytes-bytes.ensures) in (
       omega (arith, mul-add n i 1),
       ap (put_mid e (e + n - e) c.loop-unit.out) bytes
-          ∙ unit-written n us c.args.out.now c.loop-unit.out i c.args.at e c.unit-size-size.ensures.most c.loop-unit-test.true
+          ∙ unit_written n us c.args.out.now c.loop-unit.out i c.args.at e c.unit-size-size.ensures.most c.loop-unit-test.true
           c.if-at-out.false c.loop-unit.invariant.0 c.loop-unit.invariant.1,
     )
 
 pub returns : goal.returns
 returns c =
-    let all = all-written (row c.args.mode).width c.unit-size-size.result c.args.units.now c.args.out.now c.loop-unit.out
+    let all = all_written (row c.args.mode).width c.unit-size-size.result c.args.units.now c.args.out.now c.loop-unit.out
     c.loop-unit.unit-index c.args.at c.loop-unit.end c.unit-size-size.ensures.value (omega arith) c.if-at-out.false c.if-out-at.false
     c.loop-unit.invariant.0 c.loop-unit.invariant.1 in
     record { value = all.0; output = all.1 }

@@ -1,29 +1,29 @@
 use Rattle.std.proofs.Common.{◌≡◌, length, ap, ◌∙◌, rules}
 use Rattle.std.proofs.lemmas.Result.{IfOk-weaker, err_from_is_err_and}
 use Rattle.calls.proofs.Whole.{theorem}
-use Rattle.jobs.specs.Asking.{data-limit}
+use Rattle.jobs.specs.Asking.{data_limit}
 use Rattle.jobs.specs.Meaning.{meaning}
-use Rattle.jobs.proofs.AsRuns.{jobs-are-runs}
-use Rattle.jobs.proofs.Restoring.{jobs-restore}
-use Rattle.job_text.specs.Texts.{answer-text}
-use Rattle.job_text.proofs.Told.{report-told, refusal-told}
+use Rattle.jobs.proofs.AsRuns.{jobs_are_runs}
+use Rattle.jobs.proofs.Restoring.{jobs_restore}
+use Rattle.job_text.specs.Texts.{answer_text}
+use Rattle.job_text.proofs.Told.{report_told, refusal_told}
 use Rattle.job_text.proofs.answering.answer.Goals as goal
 
 pub returns-in-err-room : goal.returns-in-err-room
 returns-in-err-room c =
     let p = err_from_is_err_and c.from-residual.result c.from-residual.ensures.1 in
-    rw p.1 (record { text = tt; theorem = theorem; runs = jobs-are-runs; restoring = jobs-restore })
+    rw p.1 (record { text = tt; theorem = theorem; runs = jobs_are_runs; restoring = jobs_restore })
 
 pub returns-in-Ok : goal.returns-in-Ok
 returns-in-Ok c =
-    let full : length c.as-mut-slice-out.result.now ≡ data-limit = search rules in
+    let full : length c.as-mut-slice-out.result.now ≡ data_limit = search rules in
     let run = c.in-Ok.ensures in
-    let told = report-told _ _ _ _ run.answer run.output ∙ ap (λ room. answer-text (meaning c.args.job.now room)) full in
+    let told = report_told _ _ _ _ run.answer run.output ∙ ap (λ room. answer_text (meaning c.args.job.now room)) full in
     record { text = IfOk-weaker c.report-lines.result _ _ (λ s e. e ∙ told) c.report-lines.ensures; theorem = run.theorem; runs = run.runs; restoring = run.restoring }
 
 pub returns : goal.returns
 returns c =
-    let full : length c.as-mut-slice-out.result.now ≡ data-limit = search rules in
+    let full : length c.as-mut-slice-out.result.now ≡ data_limit = search rules in
     let run = c.in-Err.ensures in
-    let told = refusal-told _ _ run.answer ∙ ap (λ room. answer-text (meaning c.args.job.now room)) full in
+    let told = refusal_told _ _ run.answer ∙ ap (λ room. answer_text (meaning c.args.job.now room)) full in
     record { text = IfOk-weaker c.refusal-line.result _ _ (λ s e. e ∙ told) c.refusal-line.ensures; theorem = run.theorem; runs = run.runs; restoring = run.restoring }

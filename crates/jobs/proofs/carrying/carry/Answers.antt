@@ -1,6 +1,6 @@
 use Rattle.std.proofs.lemmas.Result.{err_from_is_err_and}
 use Rattle.runs.proofs.Emptying.{same_then}
-use Rattle.jobs.proofs.CarriedOut.{drain-never-refused, carried-out}
+use Rattle.jobs.proofs.CarriedOut.{drain_never_refused, carried_out}
 use Rattle.jobs.proofs.carrying.carry.Goals as goal
 
 pub returns-in-err-bytes : goal.returns-in-err-bytes
@@ -11,7 +11,7 @@ returns-in-err-bytes g c =
     let fed = c.feed-all.new.run in
     let drained = c.drain-off.new.run in
     rw p.1
-    (drain-never-refused (machine run.engine) (machine fed.engine) (machine drained.engine) run.frame fed.frame drained.frame
+    (drain_never_refused (machine run.engine) (machine fed.engine) (machine drained.engine) run.frame fed.frame drained.frame
     c.args.«data».now c.args.out.now c.feed-all.new.out c.drain-off.new.out c.in-ok-fed.fed c.args.mode
     c.in-ok-fed.ensures.fed _ _ c.in-err-bytes.ensures.drained)
 
@@ -21,7 +21,7 @@ returns g c =
     let run = c.args.run.now in
     let fed = c.feed-all.new.run in
     let drained = c.drain-off.new.run in
-    carried-out (machine run.engine) (machine fed.engine) (machine drained.engine) run.frame fed.frame drained.frame
+    carried_out (machine run.engine) (machine fed.engine) (machine drained.engine) run.frame fed.frame drained.frame
     c.args.«data».now c.args.out.now c.feed-all.new.out c.drain-off.new.out c.in-ok-fed.fed c.args.mode
     c.in-ok-fed.ensures.fed c.in-ok-bytes.bytes c.units-taken.result c.cycles.result
     (same_then (machine run.engine) (machine fed.engine) (machine drained.engine) c.feed-all.ensures.same c.drain-off.ensures.same)

@@ -1,8 +1,8 @@
 use native.Mathlib.Numerals.{unary_clauses}
 use Rattle.std.proofs.Common.{replicate, arith}
 use Rattle.std.proofs.lemmas.Result.{err_from_is_err_and}
-use Rattle.engines.specs.Depths.{greatest-depth}
-use Rattle.jobs.proofs.UnderWay.{drain-not-refused, drain-ends}
+use Rattle.engines.specs.Depths.{the_greatest_depth}
+use Rattle.jobs.proofs.UnderWay.{drain_not_refused, drain_ends}
 use Rattle.jobs.proofs.carrying.drain_off.Goals as goal
 
 pub returns-in-err-left : goal.returns-in-err-left
@@ -14,8 +14,8 @@ returns-in-err-left g c =
     let after = c.drain.new.self in
     rw p.1
     (record {
-      drained = drain-not-refused (machine run.engine) (machine after.engine) run.frame after.frame c.args.mode c.args.end
-          c.args.out.now (replicate greatest-depth 0) c.drain.new.out (omega arith) _ _ drain.answered;
+      drained = drain_not_refused (machine run.engine) (machine after.engine) run.frame after.frame c.args.mode c.args.end
+          c.args.out.now (replicate the_greatest_depth 0) c.drain.new.out (omega arith) _ _ drain.answered;
       same = drain.same.0;
     })
 
@@ -26,8 +26,8 @@ returns g c =
     let run = c.args.run.now in
     let after = c.drain.new.self in
     record {
-      drained = drain-ends (machine run.engine) (machine after.engine) run.frame after.frame c.args.mode c.args.end
-          c.args.out.now (replicate greatest-depth 0) c.drain.new.out (omega arith) c.in-ok-left.left c.hand-on.new.out c.hand-on.result drain.answered
+      drained = drain_ends (machine run.engine) (machine after.engine) run.frame after.frame c.args.mode c.args.end
+          c.args.out.now (replicate the_greatest_depth 0) c.drain.new.out (omega arith) c.in-ok-left.left c.hand-on.new.out c.hand-on.result drain.answered
           (simp unary_clauses at c.hand-on.ensures.value) (simp unary_clauses at c.hand-on.ensures.output);
       same = drain.same.0;
     }

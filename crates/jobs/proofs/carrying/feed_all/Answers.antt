@@ -3,8 +3,8 @@ use Rattle.std.proofs.lemmas.Result.{err_from_is_err_and}
 use Rattle.modes.specs.Table.{row}
 use Rattle.runs.proofs.Emptying.{same_then}
 use Rattle.job_format.proofs.Places.{placed}
-use Rattle.job_format.proofs.Sizes.{units-in-few}
-use Rattle.jobs.proofs.CarriedOut.{fed-more, feed-never-refused, all-fed}
+use Rattle.job_format.proofs.Sizes.{units_in_few}
+use Rattle.jobs.proofs.CarriedOut.{fed_more, feed_never_refused, all_fed}
 use Rattle.jobs.proofs.carrying.feed_all.Goals as goal
 
 pub returns-in-err-end : goal.returns-in-err-end
@@ -17,7 +17,7 @@ returns-in-err-end g c =
     let feed = c.in-err-end.ensures in
     rw p.1
     (record {
-      fed = feed-never-refused (machine run.engine) (machine before.engine) (machine after.engine) run.frame before.frame after.frame
+      fed = feed_never_refused (machine run.engine) (machine before.engine) (machine after.engine) run.frame before.frame after.frame
           c.args.«data».now c.args.out.now c.loop-unit.out c.feed-unit.new.out c.loop-unit.index c.in-Some.unit c.loop-unit.end
           c.args.mode c.in-Some.ensures c.loop-unit.invariant.1 _ _ feed.fed;
       same = same_then (machine run.engine) (machine before.engine) (machine after.engine) c.loop-unit.invariant.0 feed.same;
@@ -26,12 +26,12 @@ returns-in-err-end g c =
 pub overflow-add-index : goal.overflow-add-index
 overflow-add-index g c =
     let p = placed _ c.loop-unit.index c.in-Some.unit c.in-Some.ensures in
-    omega (arith, p.0, units-in-few (row c.args.mode).width c.args.«data».now)
+    omega (arith, p.0, units_in_few (row c.args.mode).width c.args.«data».now)
 
 pub loop-unit-smaller : goal.loop-unit-smaller
 loop-unit-smaller g c =
     let p = placed _ c.loop-unit.index c.in-Some.unit c.in-Some.ensures in
-    omega (arith, p.0, units-in-few (row c.args.mode).width c.args.«data».now)
+    omega (arith, p.0, units_in_few (row c.args.mode).width c.args.«data».now)
 
 pub loop-unit-preserved : goal.loop-unit-preserved
 loop-unit-preserved g c =
@@ -41,7 +41,7 @@ loop-unit-preserved g c =
     let after = c.feed-unit.new.run in
     let feed = c.in-ok-end.ensures in (
       same_then (machine run.engine) (machine before.engine) (machine after.engine) c.loop-unit.invariant.0 feed.same,
-      fed-more (machine run.engine) (machine before.engine) (machine after.engine) run.frame before.frame after.frame
+      fed_more (machine run.engine) (machine before.engine) (machine after.engine) run.frame before.frame after.frame
           c.args.«data».now c.args.out.now c.loop-unit.out c.feed-unit.new.out c.loop-unit.index c.in-Some.unit c.loop-unit.end
           c.args.mode c.in-Some.ensures c.loop-unit.invariant.1 c.in-ok-end.end feed.fed,
     )
@@ -52,7 +52,7 @@ returns g c =
     let run = c.args.run.now in
     let last = c.loop-unit.run in
     record {
-      fed = all-fed (machine run.engine) (machine last.engine) run.frame last.frame c.args.mode c.args.«data».now c.args.out.now
+      fed = all_fed (machine run.engine) (machine last.engine) run.frame last.frame c.args.mode c.args.«data».now c.args.out.now
           c.loop-unit.out c.loop-unit.index c.loop-unit.end c.in-default.ensures c.loop-unit.invariant.1;
       same = c.loop-unit.invariant.0;
     }

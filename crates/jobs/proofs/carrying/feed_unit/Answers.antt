@@ -1,8 +1,8 @@
 use native.Mathlib.Numerals.{unary_clauses}
 use Rattle.std.proofs.Common.{replicate, arith}
 use Rattle.std.proofs.lemmas.Result.{err_from_is_err_and}
-use Rattle.engines.specs.Depths.{greatest-depth}
-use Rattle.jobs.proofs.UnderWay.{feed-not-refused, feed-goes-on}
+use Rattle.engines.specs.Depths.{the_greatest_depth}
+use Rattle.jobs.proofs.UnderWay.{feed_not_refused, feed_goes_on}
 use Rattle.jobs.proofs.carrying.feed_unit.Goals as goal
 
 pub returns-in-err-given : goal.returns-in-err-given
@@ -14,8 +14,8 @@ returns-in-err-given g c =
     let after = c.feed.new.self in
     rw p.1
     (record {
-      fed = feed-not-refused (machine run.engine) (machine after.engine) run.frame after.frame c.args.mode c.args.unit c.args.end
-          c.args.out.now (replicate greatest-depth 0) c.feed.new.out (omega arith) _ _ feed.answered;
+      fed = feed_not_refused (machine run.engine) (machine after.engine) run.frame after.frame c.args.mode c.args.unit c.args.end
+          c.args.out.now (replicate the_greatest_depth 0) c.feed.new.out (omega arith) _ _ feed.answered;
       same = feed.same.0;
     })
 
@@ -26,8 +26,8 @@ returns g c =
     let run = c.args.run.now in
     let after = c.feed.new.self in
     record {
-      fed = feed-goes-on (machine run.engine) (machine after.engine) run.frame after.frame c.args.mode c.args.unit c.args.end
-          c.args.out.now (replicate greatest-depth 0) c.feed.new.out (omega arith) c.in-ok-given.given c.hand-on.new.out c.hand-on.result feed.answered
+      fed = feed_goes_on (machine run.engine) (machine after.engine) run.frame after.frame c.args.mode c.args.unit c.args.end
+          c.args.out.now (replicate the_greatest_depth 0) c.feed.new.out (omega arith) c.in-ok-given.given c.hand-on.new.out c.hand-on.result feed.answered
           (simp unary_clauses at c.hand-on.ensures.value) (simp unary_clauses at c.hand-on.ensures.output);
       same = feed.same.0;
     }

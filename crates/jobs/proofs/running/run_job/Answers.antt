@@ -2,30 +2,30 @@ use Rattle.std.proofs.Common.{length, refl}
 use Rattle.std.proofs.lemmas.Result.{err_from_is_err_and}
 use Rattle.calls.proofs.Whole.{theorem}
 use Rattle.job_format.specs.Fields.{parts_in}
-use Rattle.jobs.specs.Asking.{task-asked}
-use Rattle.jobs.proofs.AsRuns.{jobs-are-runs}
-use Rattle.jobs.proofs.Told.{fields-refused, task-refused, task-done, limited}
-use Rattle.jobs.proofs.Restoring.{jobs-restore}
+use Rattle.jobs.specs.Asking.{task_asked}
+use Rattle.jobs.proofs.AsRuns.{jobs_are_runs}
+use Rattle.jobs.proofs.Told.{fields_refused, task_refused, task_done, limited}
+use Rattle.jobs.proofs.Restoring.{jobs_restore}
 use Rattle.jobs.proofs.running.run_job.Goals as goal
 
 pub returns-in-err-fields : goal.returns-in-err-fields
 returns-in-err-fields c =
     let p = err_from_is_err_and c.from-residual.result c.from-residual.ensures.1 in
-    let t = fields-refused c.args.job.now c.args.out.now _ c.in-err-fields.ensures.value in
-    rw (p.1, p.2) (record { answer = t.0; output = t.1; unchanged = refl; limit = tt; theorem = theorem; runs = jobs-are-runs; restoring = jobs-restore })
+    let t = fields_refused c.args.job.now c.args.out.now _ c.in-err-fields.ensures.value in
+    rw (p.1, p.2) (record { answer = t.0; output = t.1; unchanged = refl; limit = tt; theorem = theorem; runs = jobs_are_runs; restoring = jobs_restore })
 
 pub returns-in-err-task : goal.returns-in-err-task
 returns-in-err-task c =
     let p = err_from_is_err_and c.from-residual-in-err-task.result c.from-residual-in-err-task.ensures.1 in
     let fields = c.in-ok-fields.fields in
-    let t = task-refused c.args.job.now c.args.out.now (parts_in fields) c.in-ok-fields.ensures.value _ c.in-err-task.ensures.value in
-    rw (p.1, p.2) (record { answer = t.0; output = t.1; unchanged = refl; limit = tt; theorem = theorem; runs = jobs-are-runs; restoring = jobs-restore })
+    let t = task_refused c.args.job.now c.args.out.now (parts_in fields) c.in-ok-fields.ensures.value _ c.in-err-task.ensures.value in
+    rw (p.1, p.2) (record { answer = t.0; output = t.1; unchanged = refl; limit = tt; theorem = theorem; runs = jobs_are_runs; restoring = jobs_restore })
 
 pub returns : goal.returns
 returns c =
     let fields = c.in-ok-fields.fields in
     let task = c.in-ok-task.task in
-    let asked = task-asked task fields.«data».now in
-    let t = task-done c.args.job.now c.args.out.now (parts_in fields) c.in-ok-fields.ensures.value asked
+    let asked = task_asked task fields.«data».now in
+    let t = task_done c.args.job.now c.args.out.now (parts_in fields) c.in-ok-fields.ensures.value asked
     c.run.new.out c.run.result c.in-ok-task.ensures.value c.run.ensures.answer c.run.ensures.output in
-    record { answer = t.0; output = t.1; unchanged = refl; limit = limited asked (length c.args.out.now) c.run.result c.in-ok-task.ensures.ready c.run.ensures.answer; theorem = theorem; runs = jobs-are-runs; restoring = jobs-restore }
+    record { answer = t.0; output = t.1; unchanged = refl; limit = limited asked (length c.args.out.now) c.run.result c.in-ok-task.ensures.ready c.run.ensures.answer; theorem = theorem; runs = jobs_are_runs; restoring = jobs_restore }

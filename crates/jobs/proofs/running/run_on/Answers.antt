@@ -2,7 +2,7 @@ use Rattle.std.proofs.Common.{ap, ◌∙◌}
 use Rattle.engines.specs.Cycles.{emptied}
 use Rattle.modes.specs.declared.way.Way.TheVariants.{Enciphering, Deciphering}
 use Rattle.calls.specs.Calls.{new}
-use Rattle.jobs.proofs.Told.{on-new-cartridge}
+use Rattle.jobs.proofs.Told.{on_new_cartridge}
 use Rattle.jobs.proofs.running.run_on.Goals as goal
 
 pub returns-in-Enciphering : goal.returns-in-Enciphering
@@ -10,7 +10,7 @@ returns-in-Enciphering g c =
     let machine = g.E.Engine.machine in
     let run = c.start-enciphering.result in
     let empty = c.start-enciphering.ensures.engine ∙ ap (λ x. emptied (machine x)) c.new-cartridge.ensures.engine in
-    let p = on-new-cartridge (machine c.args.engine) (machine run.engine) run.frame c.args.order Enciphering c.args.«data».now
+    let p = on_new_cartridge (machine c.args.engine) (machine run.engine) run.frame c.args.order Enciphering c.args.«data».now
     c.args.out.now c.carry-out.new.out c.carry-out.result empty
     (c.start-enciphering.ensures.started new c.new-cartridge.ensures.rests) c.requires c.carry-out.ensures in
     rw c.in-Enciphering.is (record { answer = p.0; output = p.1 })
@@ -20,7 +20,7 @@ returns-in-Deciphering g c =
     let machine = g.E.Engine.machine in
     let run = c.start-deciphering.result in
     let empty = c.start-deciphering.ensures.engine ∙ ap (λ x. emptied (machine x)) c.new-cartridge.ensures.engine in
-    let p = on-new-cartridge (machine c.args.engine) (machine run.engine) run.frame c.args.order Deciphering c.args.«data».now
+    let p = on_new_cartridge (machine c.args.engine) (machine run.engine) run.frame c.args.order Deciphering c.args.«data».now
     c.args.out.now c.carry-out-in-Deciphering.new.out c.carry-out-in-Deciphering.result empty
     (c.start-deciphering.ensures.started new c.new-cartridge.ensures.rests) c.requires c.carry-out-in-Deciphering.ensures in
     rw c.in-Deciphering.is (record { answer = p.0; output = p.1 })

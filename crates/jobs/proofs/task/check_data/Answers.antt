@@ -1,6 +1,6 @@
 use Rattle.std.proofs.Common.{◌≡◌, ℕ, ◌%◌, sym, ap, ◌∙◌, arith}
 use Rattle.job_format.specs.UnitBytes.{unit_size}
-use Rattle.jobs.proofs.Checked.{refused-wide, refused-room, passed}
+use Rattle.jobs.proofs.Checked.{refused_wide, refused_room, passed}
 use Rattle.jobs.proofs.task.check_data.Goals as goal
 
 -- the length is whole units by the size that was answered
@@ -9,12 +9,12 @@ whole n size size' same e = ap (λ k. n % k) (sym same) ∙ e
 
 pub returns-in-Some : goal.returns-in-Some
 returns-in-Some c =
-    refused-wide c.args.mode c.args.«data».now c.args.room (omega arith)
+    refused_wide c.args.mode c.args.«data».now c.args.room (omega arith)
     (whole _ _ _ c.unit-size.ensures.value (omega arith)) c.in-Some.index c.in-Some.ensures
 
 pub returns-then-room-length : goal.returns-then-room-length
 returns-then-room-length c =
-    refused-room c.args.mode c.args.«data».now c.args.room (omega arith)
+    refused_room c.args.mode c.args.«data».now c.args.room (omega arith)
     (whole _ _ _ c.unit-size.ensures.value (omega arith)) c.in-default.ensures c.if-room-length.true
 
 pub returns : goal.returns

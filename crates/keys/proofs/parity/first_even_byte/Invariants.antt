@@ -1,6 +1,6 @@
 use Rattle.std.proofs.Common.{◌≡◌, drop}
-use Rattle.keys.specs.Parity.{first-even}
+use Rattle.keys.specs.Parity.{first_even}
 use Rattle.keys.proofs.parity.first_even_byte.Given as goal
 
 abbrev pub invariant-loop-i : goal.invariant-loop-i
-invariant-loop-i l = first-even l.i (drop l.i l.bytes) ≡ first-even 0 l.bytes
+invariant-loop-i l = first_even l.i (drop l.i l.bytes) ≡ first_even 0 l.bytes

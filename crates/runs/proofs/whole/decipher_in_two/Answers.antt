@@ -2,7 +2,7 @@ use Rattle.std.proofs.Common.{ap, ◌∙◌}
 use Rattle.engines.specs.Cycles.{emptied}
 use Rattle.modes.specs.declared.way.Way.TheVariants.{Deciphering}
 use Rattle.calls.specs.Calls.{new}
-use Rattle.runs.proofs.TwoFeeds.{from-new}
+use Rattle.runs.proofs.TwoFeeds.{from_new}
 use Rattle.runs.proofs.whole.decipher_in_two.Goals as goal
 
 pub returns : goal.returns
@@ -11,7 +11,7 @@ returns g c =
     let run = c.start-deciphering-receiver.result in
     let cartridge = c.finish.result.0 in
     let e = c.start-deciphering-receiver.ensures.engine ∙ ap (λ x. emptied (machine x)) c.new.ensures.engine in
-    let p = from-new (machine c.args.engine) (machine run.engine) (machine cartridge.engine) run.frame c.args.order Deciphering
+    let p = from_new (machine c.args.engine) (machine run.engine) (machine cartridge.engine) run.frame c.args.order Deciphering
     cartridge.count c.args.first.now c.args.second.now c.args.out.now c.finish.new.out c.finish.result.1
     e (c.start-deciphering-receiver.ensures.started new c.new.ensures.rests) c.finish.ensures in
     record { answer = ap (λ x. x.answer) p.0; count = ap (λ x. x.count) p.0; output = ap (λ x. x.output) p.0; engine = p.1 }

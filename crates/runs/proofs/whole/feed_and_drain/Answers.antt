@@ -1,7 +1,7 @@
 use Rattle.std.proofs.Common.{rules}
 use Rattle.std.proofs.lemmas.List.{take_rest}
 use Rattle.std.proofs.lemmas.Result.{err_from_is_err_and}
-use Rattle.runs.proofs.Emptying.{same_then, refused-at-once, never-refused, fed-and-drained}
+use Rattle.runs.proofs.Emptying.{same_then, refused_at_once, never_refused, fed_and_drained}
 use Rattle.runs.proofs.whole.feed_and_drain.Goals as goal
 
 pub returns-in-err-given : goal.returns-in-err-given
@@ -9,7 +9,7 @@ returns-in-err-given g c =
     let p = err_from_is_err_and c.from-residual.result c.from-residual.ensures.1 in
     let feed = c.in-err-given.ensures in
     rw (p.1, p.2)
-    (record { emptied = refused-at-once _ _ _ _ _ _ _ _ feed.refusal feed.answered; within = tt; same = feed.same.0 })
+    (record { emptied = refused_at_once _ _ _ _ _ _ _ _ feed.refusal feed.answered; within = tt; same = feed.same.0 })
 
 pub returns-in-err-drained : goal.returns-in-err-drained
 returns-in-err-drained g c =
@@ -24,7 +24,7 @@ returns-in-err-drained g c =
     let rest = take_rest c.feed.new.out given in
     rw p.1
     (record {
-      emptied = λ calls stands. absurd (never-refused (machine run.engine) (machine fed.engine) run.frame fed.frame c.args.units.now c.args.out.now c.feed.new.out (machine emptied.engine) emptied.frame _ c.drain.new.out given rest feed.answered _ drain.answered calls stands);
+      emptied = λ calls stands. absurd (never_refused (machine run.engine) (machine fed.engine) run.frame fed.frame c.args.units.now c.args.out.now c.feed.new.out (machine emptied.engine) emptied.frame _ c.drain.new.out given rest feed.answered _ drain.answered calls stands);
       within = tt;
       same = same_then (machine run.engine) (machine fed.engine) (machine emptied.engine) feed.same.0 drain.same.0;
     })
@@ -40,7 +40,7 @@ returns g c =
     let machine = g.E.Engine.machine in
     let rest = take_rest c.feed.new.out given in
     record {
-      emptied = fed-and-drained (machine run.engine) (machine fed.engine) run.frame fed.frame c.args.units.now c.args.out.now c.feed.new.out (machine emptied.engine) emptied.frame _ c.drain.new.out given rest feed.answered _ feed.refusal drain.answered;
+      emptied = fed_and_drained (machine run.engine) (machine fed.engine) run.frame fed.frame c.args.units.now c.args.out.now c.feed.new.out (machine emptied.engine) emptied.frame _ c.drain.new.out given rest feed.answered _ feed.refusal drain.answered;
       within = search rules;
       same = same_then (machine run.engine) (machine fed.engine) (machine emptied.engine) feed.same.0 drain.same.0;
     }

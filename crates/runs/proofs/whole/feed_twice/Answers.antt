@@ -1,7 +1,7 @@
 use Rattle.std.proofs.lemmas.List.{take_rest}
 use Rattle.std.proofs.lemmas.Result.{err_from_is_err_and}
 use Rattle.runs.proofs.Emptying.{same_then}
-use Rattle.runs.proofs.TwoFeeds.{first-refused, second-refused, fed-twice}
+use Rattle.runs.proofs.TwoFeeds.{first_refused, second_refused, fed_twice}
 use Rattle.runs.proofs.whole.feed_twice.Goals as goal
 
 pub returns-in-err-given : goal.returns-in-err-given
@@ -12,7 +12,7 @@ returns-in-err-given g c =
     let machine = g.E.Engine.machine in
     let one = c.in-err-given.ensures in
     rw (p.1, p.2)
-    (first-refused (machine run.engine) (machine once.engine) run.frame once.frame c.args.first.now c.args.second.now
+    (first_refused (machine run.engine) (machine once.engine) run.frame once.frame c.args.first.now c.args.second.now
     c.args.out.now c.feed-and-drain.new.out _ one.same one.emptied)
 
 pub returns-in-err-feed-and-drain : goal.returns-in-err-feed-and-drain
@@ -27,7 +27,7 @@ returns-in-err-feed-and-drain g c =
     let two = c.in-err-feed-and-drain.ensures in
     let ys = c.feed-and-drain.new.out in
     rw (p.1, p.2)
-    (second-refused (machine run.engine) (machine once.engine) (machine twice.engine) run.frame once.frame twice.frame
+    (second_refused (machine run.engine) (machine once.engine) (machine twice.engine) run.frame once.frame twice.frame
     c.args.first.now c.args.second.now c.args.out.now ys _ c.feed-and-drain-2.new.out given
     (same_then (machine run.engine) (machine once.engine) (machine twice.engine) one.same two.same)
     c.feed-and-drain.auto.out (take_rest ys given) one.emptied _ two.emptied)
@@ -42,7 +42,7 @@ returns g c =
     let one = c.in-ok-given.ensures in
     let two = c.in-ok-feed-and-drain.ensures in
     let ys = c.feed-and-drain.new.out in
-    fed-twice (machine run.engine) (machine once.engine) (machine twice.engine) run.frame once.frame twice.frame
+    fed_twice (machine run.engine) (machine once.engine) (machine twice.engine) run.frame once.frame twice.frame
     c.args.first.now c.args.second.now c.args.out.now ys _ c.feed-and-drain-2.new.out given
     (same_then (machine run.engine) (machine once.engine) (machine twice.engine) one.same two.same)
     c.feed-and-drain.auto.out (take_rest ys given) one.emptied _ c.cycles.result two.emptied c.cycles.ensures.due

@@ -1,5 +1,5 @@
 use Rattle.std.proofs.Common.{◌+◌, ap}
-use Rattle.runs.proofs.TwoFeeds.{closed-then}
+use Rattle.runs.proofs.TwoFeeds.{closed_then}
 use Rattle.runs.proofs.whole.finish.Goals as goal
 
 pub returns : goal.returns
@@ -8,6 +8,6 @@ returns g c =
     let run = c.args.run in
     let last = c.feed-twice-answer.new.run in
     let cartridge = c.close.result in
-    closed-then (machine run.engine) (machine last.engine) (machine cartridge.engine) run.frame (last.frame.before + last.frame.taken)
+    closed_then (machine run.engine) (machine last.engine) (machine cartridge.engine) run.frame (last.frame.before + last.frame.taken)
     cartridge.count c.args.first.now c.args.second.now c.args.out.now c.feed-twice-answer.new.out c.feed-twice-answer.result
     (ap machine c.close.ensures.engine) c.close.ensures.count c.feed-twice-answer.ensures

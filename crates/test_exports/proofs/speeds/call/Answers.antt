@@ -1,6 +1,6 @@
 use Rattle.std.proofs.Common.{◌≡◌, ℕ, suc, ◌+◌, ◌-◌, ap, ◌∙◌, arith}
 use lib.Bits.{bit_xor}
-use Rattle.cipher.specs.Functions.{forward-of, inverse-of}
+use Rattle.cipher.specs.Functions.{forward_of, inverse_of}
 use Rattle.test_exports.specs.Speeds.{called}
 use Rattle.test_exports.proofs.speeds.call.Goals as goal
 
@@ -13,6 +13,6 @@ loop-number-preserved c =
     let third = c.args.third.now in
     let k : ℕ = c.args.times - (i + 1) in
     let more : suc k ≡ c.args.times - i = omega arith in
-    let here : c.forward-all.result ≡ forward-of third (inverse-of second (forward-of first i)) =
-    c.forward-all.ensures ∙ ap (forward-of third) (c.inverse.ensures ∙ ap (inverse-of second) c.forward.ensures) in
+    let here : c.forward-all.result ≡ forward_of third (inverse_of second (forward_of first i)) =
+    c.forward-all.ensures ∙ ap (forward_of third) (c.inverse.ensures ∙ ap (inverse_of second) c.forward.ensures) in
     ap (λ (x : ℕ). called k (i + 1) first second third (bit_xor all x)) here ∙ ap (λ (n : ℕ). called n i first second third all) more ∙ c.loop-number.invariant

@@ -2,7 +2,7 @@ use Rattle.std.proofs.Common.{◌≡◌, ℕ, ◌+◌, ◌-◌, ◌*◌, ◌/◌
 use lib.Bits.{bit_and, bit_xor}
 use Rattle.cipher.specs.Words.{select}
 use Rattle.cipher.specs.Rounds.{f, substituted, permuted, expanded}
-use Rattle.cipher.proofs.Combined.{combined-at, permuted-more, six-is}
+use Rattle.cipher.proofs.Combined.{combined_at, permuted_more, six_is}
 use Rattle.cipher.proofs.dea.Dea.mix.Goals as goal
 
 pub loop-i-init : goal.loop-i-init
@@ -19,11 +19,11 @@ loop-i-preserved c =
     let x : ℕ = bit_xor (expanded r) k in
     let v : ℕ = x / 2 ^ (42 - 6 * i) % 64 in
     let six : bit_and (bit_xor (c.window-bits.result / 2 ^ (28 - 4 * i)) (k / 2 ^ (42 - 6 * i))) 63 ≡ v =
-    ap (λ (w : ℕ). bit_and (bit_xor (w / 2 ^ (28 - 4 * i)) (k / 2 ^ (42 - 6 * i))) 63) c.window-bits.ensures ∙ six-is i r k hi hr in
+    ap (λ (w : ℕ). bit_and (bit_xor (w / 2 ^ (28 - 4 * i)) (k / 2 ^ (42 - 6 * i))) 63) c.window-bits.ensures ∙ six_is i r k hi hr in
     ap₂ bit_xor c.loop-i.invariant
     (ap₂ (λ t (v : ℕ). get_or t (i * 64 + v) 0) c.args.self.now.substitutes six
-    ∙ combined-at i v hi (mod-lt (x / 2 ^ (42 - 6 * i)) (zero-lt-suc 63)))
-    ∙ permuted-more i x hi
+    ∙ combined_at i v hi (mod-lt (x / 2 ^ (42 - 6 * i)) (zero-lt-suc 63)))
+    ∙ permuted_more i x hi
 
 pub returns : goal.returns
 unfolding f

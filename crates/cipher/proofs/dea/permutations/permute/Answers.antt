@@ -1,6 +1,6 @@
 use Rattle.std.proofs.Common.{arith}
-use Rattle.cipher.proofs.Exchanges.{ip-exchanged}
+use Rattle.cipher.proofs.Exchanges.{ip_exchanged}
 use Rattle.cipher.proofs.dea.permutations.permute.Goals as goal
 
 pub returns : goal.returns
-returns c = let e = ip-exchanged c.args.block (omega arith) in cc
+returns c = let e = ip_exchanged c.args.block (omega arith) in cc

@@ -1,12 +1,12 @@
 use Rattle.std.proofs.Common.{ℕ, ◌/◌, ◌%◌, ◌^◌, ◌<◌, sym, ap, ◌∙◌, subst, arith, shr_lt}
 use lib.Bits.{and_mask, mask_lt}
-use Rattle.cipher.specs.Tables.{pc1-table}
+use Rattle.cipher.specs.Tables.{pc1_table}
 use Rattle.cipher.specs.KeySchedule.{pc1}
-use Rattle.cipher.specs.Selects.{select-lt}
+use Rattle.cipher.specs.Selects.{select_lt}
 use Rattle.cipher.proofs.dea.schedule.first_halves.Goals as goal
 
 first-lt : (c : goal.After-select-x) → c.select-x.result / 2 ^ 28 < 2 ^ 28
-first-lt c = shr_lt 28 28 (subst (λ (x : ℕ). x < 2 ^ 56) (sym c.select-x.ensures) (select-lt 64 pc1-table c.args.key))
+first-lt c = shr_lt 28 28 (subst (λ (x : ℕ). x < 2 ^ 56) (sym c.select-x.ensures) (select_lt 64 pc1_table c.args.key))
 
 pub overflow-cast-result : goal.overflow-cast-result
 overflow-cast-result c = let h = first-lt c in record { fits = omega arith }

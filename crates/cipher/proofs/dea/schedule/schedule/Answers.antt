@@ -1,14 +1,14 @@
 use Rattle.std.proofs.Common.{◌≡◌, ℕ, ◌+◌, ◌<◌, List, [], ◌∷◌, ◌++◌, length, take, drop, sym, refl, ap, ◌∙◌, ap₂, append_assoc, append-nil, arith, length-set}
 use Rattle.std.proofs.lemmas.List.{take_more_set, drop_more, take_all, drop_all}
-use Rattle.cipher.specs.Tables.{rotation-table}
-use Rattle.cipher.specs.KeySchedule.{round-keys, round-keys-from, pc2}
+use Rattle.cipher.specs.Tables.{rotation_table}
+use Rattle.cipher.specs.KeySchedule.{round_keys_of, round_keys_from, pc2}
 use Rattle.cipher.proofs.dea.schedule.schedule.Goals as goal
 
 pub loop-i-init : goal.loop-i-init
-unfolding round-keys
+unfolding round_keys_of
 loop-i-init c =
     let first = c.first-halves-halves.ensures in
-    (refl, ap (round-keys-from rotation-table) first.value, first.small.0, first.small.1)
+    (refl, ap (round_keys_from rotation_table) first.value, first.small.0, first.small.1)
 
 pub loop-i-preserved : goal.loop-i-preserved
 loop-i-preserved c =
@@ -19,13 +19,13 @@ loop-i-preserved c =
     let p : ℕ × ℕ = c.loop-i.halves in
     let q : ℕ × ℕ = c.step-halves.result in
     let k : ℕ = c.round-key.result in
-    let rest : List ℕ = drop (i + 1) rotation-table in (
+    let rest : List ℕ = drop (i + 1) rotation_table in (
       length-set ks i k ∙ len,
-      ap (λ l. l ++ round-keys-from rest q) (take_more_set ks i k h)
-          ∙ append_assoc (take i ks) (k ∷ []) (round-keys-from rest q)
+      ap (λ l. l ++ round_keys_from rest q) (take_more_set ks i k h)
+          ∙ append_assoc (take i ks) (k ∷ []) (round_keys_from rest q)
           ∙ ap₂ (λ (k : ℕ) (l : List ℕ). take i ks ++ (k ∷ l))
-          (c.round-key.ensures ∙ ap pc2 c.step-halves.ensures.value) (ap (round-keys-from rest) c.step-halves.ensures.value)
-          ∙ ap (λ l. take i ks ++ round-keys-from l p) (sym (drop_more rotation-table i 0 (omega arith)))
+          (c.round-key.ensures ∙ ap pc2 c.step-halves.ensures.value) (ap (round_keys_from rest) c.step-halves.ensures.value)
+          ∙ ap (λ l. take i ks ++ round_keys_from l p) (sym (drop_more rotation_table i 0 (omega arith)))
           ∙ c.loop-i.invariant.1,
       c.step-halves.ensures.small.0,
       c.step-halves.ensures.small.1,
@@ -38,5 +38,5 @@ returns c =
     let len : length ks ≡ 16 = c.loop-i.invariant.0 in
     sym (append-nil ks)
     ∙ ap₂ (λ (a b : List ℕ). a ++ b) (sym (take_all i ks (omega arith)))
-    (ap (λ l. round-keys-from l c.loop-i.halves) (sym (drop_all i rotation-table (omega arith))))
+    (ap (λ l. round_keys_from l c.loop-i.halves) (sym (drop_all i rotation_table (omega arith))))
     ∙ c.loop-i.invariant.1

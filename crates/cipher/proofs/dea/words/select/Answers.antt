@@ -1,7 +1,7 @@
 use Rattle.std.proofs.Common.{◌≡◌, ℕ, ◌+◌, ◌-◌, ◌*◌, ◌/◌, ◌^◌, ◌<◌, ◌≤◌, length, get_or, take, sym, refl, ap, ◌∙◌, lt_of_lt_of_le, arith, length-take, pow_mono}
 use Rattle.std.proofs.lemmas.List.{take_more, take_all}
 use Rattle.cipher.specs.Words.{select, bit}
-use Rattle.cipher.specs.Selects.{select-lt, select-push, place_at, push-bit}
+use Rattle.cipher.specs.Selects.{select_lt, select_push, place_at, push_bit}
 use Rattle.cipher.proofs.dea.words.select.Goals as goal
 
 pub overflow-sub-bits : goal.overflow-sub-bits
@@ -25,10 +25,10 @@ loop-place-preserved c =
     let p : ℕ = get_or ps i 0 in
     let front = take i ps in
     let fewer : length front ≤ 63 = omega (arith, length-take i ps) in
-    let small : select w front n < 2 ^ 63 = lt_of_lt_of_le (select-lt w front n) (pow_mono fewer) in
+    let small : select w front n < 2 ^ 63 = lt_of_lt_of_le (select_lt w front n) (pow_mono fewer) in
     let same : c.loop-place.bits ≡ select w front n = c.loop-place.invariant in
     let fits : c.loop-place.bits < 2 ^ 63 = rw same small in
-    push-bit c.loop-place.bits (n / 2 ^ (w - p)) fits ∙ ap (λ (x : ℕ). x * 2 + bit w n p) same ∙ sym (select-push w front p n)
+    push_bit c.loop-place.bits (n / 2 ^ (w - p)) fits ∙ ap (λ (x : ℕ). x * 2 + bit w n p) same ∙ sym (select_push w front p n)
     ∙ ap (λ l. select w l n) (sym (take_more ps i 0 c.loop-place-test.true))
 
 pub returns : goal.returns

@@ -1,5 +1,5 @@
 use Rattle.std.proofs.Common.{◌≡◌, length, length-set}
-use Rattle.engines.proofs.Stages.{turns-advance}
+use Rattle.engines.proofs.Stages.{turns_advance}
 use Rattle.engines.proofs.line.Line.advance.Goals as goal
 
 pub returns : goal.returns
@@ -8,6 +8,6 @@ returns g c =
     let one = c.turn-from-first.ensures in
     let two = c.turn-from-second.ensures in
     let n : length l.table.blocks ≡ 3 = simp (one.after, length-set) at one.three in
-    turns-advance g.A.Cipher g.B.Cipher g.C.Cipher l c.turn-from-first.new.self c.turn-from-second.new.self c.turn.new.self
+    turns_advance g.A.Cipher g.B.Cipher g.C.Cipher l c.turn-from-first.new.self c.turn-from-second.new.self c.turn.new.self
     c.args.input c.turn-from-first.result c.turn-from-second.result n one.after one.handed two.after two.handed
     c.turn.ensures.after

@@ -1,4 +1,4 @@
-use Rattle.engines.proofs.Stages.{line-answered, line-turned}
+use Rattle.engines.proofs.Stages.{line_answered, line_turned}
 use Rattle.engines.proofs.line.LineEngine.clock.Goals as goal
 
 pub returns : goal.returns
@@ -9,8 +9,8 @@ returns g c =
     let cycle = c.advance.ensures in
     record {
       answer =
-          line-answered g.A.Cipher g.B.Cipher g.C.Cipher l l' input c.state.result c.block.result cycle c.state.ensures
+          line_answered g.A.Cipher g.B.Cipher g.C.Cipher l l' input c.state.result c.block.result cycle c.state.ensures
           c.block.ensures;
-      after = line-turned g.A.Cipher g.B.Cipher g.C.Cipher l l' input cycle;
+      after = line_turned g.A.Cipher g.B.Cipher g.C.Cipher l l' input cycle;
       held = cycle;
     }

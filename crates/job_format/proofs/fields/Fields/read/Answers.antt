@@ -1,6 +1,6 @@
 use Rattle.std.proofs.Common.{sym, refl}
 use Rattle.job_format.specs.declared.tag.Tag.TheVariants.{Keys, Code, Direction, InitialValues, Data}
-use Rattle.job_format.specs.Reading.{field_at, end-at}
+use Rattle.job_format.specs.Reading.{field_at, end_at}
 use Rattle.job_format.proofs.JobBytes.{format}
 use Rattle.job_format.proofs.Reached.{started, answered, refused, goes_on}
 use Rattle.job_format.proofs.fields.Fields.read.Goals as goal
@@ -42,7 +42,7 @@ returns-in-err-end c =
     let direction = goes_on Direction _ refl code c.in-ok-direction.field-0 c.field-3.new.self c.field-3.ensures.same c.in-ok-direction.ensures.value in
     let values = goes_on InitialValues _ refl direction c.in-ok-initial-values.field-0 c.field-4.new.self c.field-4.ensures.same c.in-ok-initial-values.ensures.value in
     let last = goes_on Data _ refl values c.in-ok-data.field-0 c.field-5.new.self c.field-5.ensures.same c.in-ok-data.ensures.value in
-    record { value = refused end-at _ refl last _ c.in-err-end.ensures c.from-residual-in-err-end.ensures.1; format = format }
+    record { value = refused end_at _ refl last _ c.in-err-end.ensures c.from-residual-in-err-end.ensures.1; format = format }
 
 pub returns : goal.returns
 returns c =
@@ -51,4 +51,4 @@ returns c =
     let direction = goes_on Direction _ refl code c.in-ok-direction.field-0 c.field-3.new.self c.field-3.ensures.same c.in-ok-direction.ensures.value in
     let values = goes_on InitialValues _ refl direction c.in-ok-initial-values.field-0 c.field-4.new.self c.field-4.ensures.same c.in-ok-initial-values.ensures.value in
     let last = goes_on Data _ refl values c.in-ok-data.field-0 c.field-5.new.self c.field-5.ensures.same c.in-ok-data.ensures.value in
-    record { value = sym (answered end-at _ refl last c.in-ok-end.ensures); format = format }
+    record { value = sym (answered end_at _ refl last c.in-ok-end.ensures); format = format }

@@ -1,7 +1,7 @@
 use Rattle.std.proofs.Common.{refl, ap, ◌∙◌, arith, rules}
 use Rattle.modes.specs.Values.{listed}
 use Rattle.runs.specs.Stands.{Fresh}
-use Rattle.runs.proofs.Starts.{started-by}
+use Rattle.runs.proofs.Starts.{started_by}
 use Rattle.runs.proofs.cartridge.Cartridge.start.Goals as goal
 
 pub returns : goal.returns
@@ -11,9 +11,9 @@ returns g c =
     let fresh : Fresh _ c.args.order g.W.Heading.heads c.args.self.count =
     record { mode = c.mode.ensures.value; way = c.way-of.ensures; before = refl; taken = refl; inside = c.new.ensures; cycles = refl } in
     record {
-      started = started-by (mach was) _ c.args.self.count c.args.order g.W.Heading.heads _
+      started = started_by (mach was) _ c.args.self.count c.args.order g.W.Heading.heads _
           (omega (arith, g.met.E.Engine.places was)) (g.met.E.Engine.shallow was) (search rules) fresh
-          (c.first-links.ensures ∙ ap listed c.initial-values.ensures.value);
+          (c.first-links.ensures ∙ ap listed c.initial_values.ensures.value);
       fresh = fresh;
       engine = search rules;
     }

@@ -1,13 +1,13 @@
 use Rattle.std.proofs.Common.{◌≡◌, length, sym, rules}
-use Rattle.engines.specs.Depths.{greatest-depth}
-use Rattle.runs.proofs.RingPlaces.{length-items}
+use Rattle.engines.specs.Depths.{the_greatest_depth}
+use Rattle.runs.proofs.RingPlaces.{length_items}
 use Rattle.runs.proofs.ring.Ring.len.Goals as goal
 
 pub returns : goal.returns
 returns c =
     let ring = c.args.self.now in
-    let size : length ring.places ≡ greatest-depth = search rules in
+    let size : length ring.places ≡ the_greatest_depth = search rules in
     record {
-      value = sym (length-items ring.places greatest-depth ring.oldest ring.count size ring.within.0 ring.within.1);
+      value = sym (length_items ring.places the_greatest_depth ring.oldest ring.count size ring.within.0 ring.within.1);
       most = ring.within.1;
     }

@@ -1,7 +1,7 @@
 use Rattle.std.proofs.Common.{length, ap, ◌∙◌, arith}
 use Rattle.runs.specs.Steps.{counted}
 use Rattle.runs.specs.Views.{view}
-use Rattle.runs.proofs.Cycles.{turned_same, cycled, released-at}
+use Rattle.runs.proofs.Cycles.{turned_same, cycled, released_at}
 use Rattle.runs.proofs.run.Run.cycle.Goals as goal
 
 pub returns : goal.returns
@@ -22,7 +22,7 @@ returns g c =
       cycled =
           cycled mach0 mach1 run.frame.mode run.frame.way v0 v1 v3 c.admit-input.result c.clock-answer.result c.release.result
           turn.answer turn.after
-          (released-at run.frame.mode c.count-cycle.new.self.mode run.frame.way c.count-cycle.new.self.way (counted v1) v2 v3
+          (released_at run.frame.mode c.count-cycle.new.self.mode run.frame.way c.count-cycle.new.self.way (counted v1) v2 v3
           c.clock-answer.result c.release.result (count.same.0 ∙ entered.same.0) (count.same.1 ∙ entered.same.1) count.after out.after)
           c.args.unit entered.after;
       same = (

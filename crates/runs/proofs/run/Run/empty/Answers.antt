@@ -1,14 +1,14 @@
 use Rattle.std.proofs.Common.{◌≡◌, ◌+◌, ◌-◌, subst, arith}
 use Rattle.runs.specs.Handing.{Idles}
-use Rattle.runs.proofs.Onwards.{onward-none, onward_then}
-use Rattle.runs.proofs.Passes.{idles-none, idles-more}
+use Rattle.runs.proofs.Onwards.{onward_none, onward_then}
+use Rattle.runs.proofs.Passes.{idles_none, idles_more}
 use Rattle.runs.proofs.run.Run.empty.Goals as goal
 
 pub loop-init : goal.loop-init
 loop-init g c =
     let mach = g.E.Engine.machine in
     let run = c.args.self.now in
-    (onward-none (mach run.engine) run.frame 0, idles-none (mach run.engine) run.frame 0 c.args.out.now)
+    (onward_none (mach run.engine) run.frame 0, idles_none (mach run.engine) run.frame 0 c.args.out.now)
 
 pub pass-given-requires : goal.pass-given-requires
 pass-given-requires g c =
@@ -26,7 +26,7 @@ loop-preserved g c =
     let e : l.counter - 1 + 1 ≡ l.counter + 1 - 1 = omega (arith, l.auto.counter) in (
       on,
       subst (λ n. Idles (mach run.engine) (mach q.new.self.engine) run.frame q.new.self.frame n 0 q.result c.args.out.now q.new.out) e
-          (idles-more (mach run.engine) (mach l.self.engine) (mach q.new.self.engine) run.frame l.self.frame q.new.self.frame
+          (idles_more (mach run.engine) (mach l.self.engine) (mach q.new.self.engine) run.frame l.self.frame q.new.self.frame
           (l.counter - 1) 0 l.given q.result c.args.out.now l.out q.new.out l.invariant.0.engine on.engine l.invariant.1 q.ensures.passed),
     )
 

@@ -2,7 +2,7 @@ use Rattle.std.proofs.Common.{◌+◌, ◌-◌, [], length, sym, refl, ap, arith
 use Rattle.modes.specs.Table.{row}
 use Rattle.calls.specs.Calls.{gave}
 use Rattle.runs.specs.Rings.{items}
-use Rattle.runs.proofs.FeedReplies.{refuses-room, refuses-wide, refuses-many, accepts, feed-refused, feed-taken}
+use Rattle.runs.proofs.FeedReplies.{refuses_room, refuses_wide, refuses_many, accepts, feed_refused, feed_taken}
 use Rattle.runs.proofs.run.Run.feed.Goals as goal
 
 pub returns-then-out-wanted : goal.returns-then-out-wanted
@@ -11,10 +11,10 @@ returns-then-out-wanted g c =
     let f = run.frame in
     let us = c.args.units.now in
     let xs = c.args.out.now in
-    let no = refuses-room (length (items f.pending)) (row f.mode).width (f.before + f.taken) us (length xs) (c.len.result + length us)
+    let no = refuses_room (length (items f.pending)) (row f.mode).width (f.before + f.taken) us (length xs) (c.len.result + length us)
     (ap (λ n. n + length us) c.len.ensures.value) c.if-out-wanted.true in
     record {
-      answered = feed-refused (g.E.Engine.machine run.engine) f us xs _ no;
+      answered = feed_refused (g.E.Engine.machine run.engine) f us xs _ no;
       refusal = sym (no (gave []));
       within = tt;
       unaltered = (refl, refl);
@@ -28,10 +28,10 @@ returns-in-Some g c =
     let f = run.frame in
     let us = c.args.units.now in
     let xs = c.args.out.now in
-    let no = refuses-wide (length (items f.pending)) (row f.mode).width (f.before + f.taken) us (length xs)
+    let no = refuses_wide (length (items f.pending)) (row f.mode).width (f.before + f.taken) us (length xs)
     (omega (arith, c.if-out-wanted.false, c.len.ensures.value)) c.in-Some.index (sym c.in-Some.ensures) in
     record {
-      answered = feed-refused (g.E.Engine.machine run.engine) f us xs _ no;
+      answered = feed_refused (g.E.Engine.machine run.engine) f us xs _ no;
       refusal = sym (no (gave []));
       within = tt;
       unaltered = (refl, refl);
@@ -46,10 +46,10 @@ returns-then-left-units g c =
     let us = c.args.units.now in
     let xs = c.args.out.now in
     let within = f.within in
-    let no = refuses-many (length (items f.pending)) (row f.mode).width (f.before + f.taken) us (length xs)
+    let no = refuses_many (length (items f.pending)) (row f.mode).width (f.before + f.taken) us (length xs)
     (omega (arith, c.if-out-wanted.false, c.len.ensures.value)) (sym c.in-default.ensures) (omega (arith, c.if-left-units.true)) in
     record {
-      answered = feed-refused (g.E.Engine.machine run.engine) f us xs _ no;
+      answered = feed_refused (g.E.Engine.machine run.engine) f us xs _ no;
       refusal = sym (no (gave []));
       within = tt;
       unaltered = (refl, refl);
@@ -69,7 +69,7 @@ returns g c =
     let yes = accepts (length (items f.pending)) (row f.mode).width (f.before + f.taken) us (length xs)
     (omega (arith, c.if-out-wanted.false, c.len.ensures.value)) (sym c.in-default.ensures) (omega (arith, c.if-left-units.false)) in
     record {
-      answered = feed-taken (mach run.engine) (mach p.new.self.engine) f p.new.self.frame us xs p.new.out p.result
+      answered = feed_taken (mach run.engine) (mach p.new.self.engine) f p.new.self.frame us xs p.new.out p.result
           p.ensures.onward.engine yes p.ensures.pumped;
       refusal = sym (yes (gave []));
       within = omega (arith, p.ensures.onward.room, c.if-out-wanted.false, c.len.ensures.value);

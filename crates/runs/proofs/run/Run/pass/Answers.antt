@@ -1,5 +1,5 @@
 use Rattle.std.proofs.Common.{◌+◌, ◌≤◌, length, arith}
-use Rattle.runs.specs.Rings.{one-if}
+use Rattle.runs.specs.Rings.{one_if}
 use Rattle.runs.proofs.Passes.{passes}
 use Rattle.runs.proofs.run.Run.pass.Goals as goal
 
@@ -8,7 +8,7 @@ returns g c =
     let e = g.E.Engine in
     let run = c.args.self.now in
     let y = c.cycle-unit in
-    let room : c.args.given + one-if y.result ≤ length c.args.out.now = omega (arith, y.ensures.most, c.requires.room) in
+    let room : c.args.given + one_if y.result ≤ length c.args.out.now = omega (arith, y.ensures.most, c.requires.room) in
     record {
       passed = passes (e.machine run.engine) (e.machine y.new.self.engine) run.frame y.new.self.frame
           c.args.unit y.result c.args.given c.put.result c.args.out.now c.put.new.out

@@ -1,15 +1,15 @@
 use Rattle.std.proofs.Common.{◌≡◌, ◌+◌, get_or, refl, subst, arith}
 use Rattle.runs.specs.Handing.{Onward}
-use Rattle.runs.proofs.Onwards.{onward-none, onward_then}
-use Rattle.runs.proofs.Pumps.{pumps-none, pumps-more}
+use Rattle.runs.proofs.Onwards.{onward_none, onward_then}
+use Rattle.runs.proofs.Pumps.{pumps_none, pumps_more}
 use Rattle.runs.proofs.run.Run.pump.Goals as goal
 
 pub loop-unit-init : goal.loop-unit-init
 loop-unit-init g c =
     let mach = g.E.Engine.machine in
     let run = c.args.self.now in (
-      onward-none (mach run.engine) run.frame 0,
-      pumps-none (mach run.engine) run.frame c.args.units.now c.args.out.now,
+      onward_none (mach run.engine) run.frame 0,
+      pumps_none (mach run.engine) run.frame c.args.units.now c.args.out.now,
       λ _. (refl, refl, refl),
     )
 
@@ -41,7 +41,7 @@ loop-unit-preserved g c =
     let passed = onward_then m0 m2 m3 run.frame q.new.self.frame p.new.self.frame 0 q.result p.result (k + 0) 1 waited p.ensures.onward in
     let e : k + 0 + 1 ≡ k + 1 = omega arith in (
       subst (λ n. Onward m0 m3 run.frame p.new.self.frame 0 p.result n) e passed,
-      pumps-more m0 m1 m2 m3 run.frame l.self.frame q.new.self.frame p.new.self.frame c.args.units.now k (get_or c.args.units.now k 0)
+      pumps_more m0 m1 m2 m3 run.frame l.self.frame q.new.self.frame p.new.self.frame c.args.units.now k (get_or c.args.units.now k 0)
           l.given q.result p.result c.args.out.now l.out q.new.out p.new.out
           l.invariant.0.engine waited.engine passed.engine c.loop-unit-test.true refl l.invariant.1 q.ensures.waited p.ensures.passed,
       λ z. absurd (omega arith),

@@ -1,5 +1,5 @@
 use Rattle.std.proofs.Common.{sym, ◌∙◌}
-use Rattle.runs.proofs.Numbers.{inside-told, in-row-told}
+use Rattle.runs.proofs.Numbers.{inside_told, in_row_told}
 use Rattle.runs.proofs.run.Run.units_inside.Goals as goal
 
 pub returns : goal.returns
@@ -8,6 +8,6 @@ returns g c =
     let f = c.args.self.now.frame in
     record {
       value = is;
-      due = λ calls stands. is ∙ inside-told _ f calls stands;
-      row = λ calls stands. is ∙ inside-told _ f calls stands ∙ sym (in-row-told _ f calls stands);
+      due = λ calls stands. is ∙ inside_told _ f calls stands;
+      row = λ calls stands. is ∙ inside_told _ f calls stands ∙ sym (in_row_told _ f calls stands);
     }

@@ -1,17 +1,17 @@
 use Rattle.std.proofs.Common.{◌≡◌, ◌+◌, ◌-◌, sym, subst, arith}
 use Rattle.runs.specs.Handing.{Idles}
-use Rattle.runs.proofs.Onwards.{onward-none, onward_then}
-use Rattle.runs.proofs.Passes.{idles-none, idles-more}
-use Rattle.runs.proofs.Waits.{Early, early-first, early-more, waits-partner, waits-all}
+use Rattle.runs.proofs.Onwards.{onward_none, onward_then}
+use Rattle.runs.proofs.Passes.{idles_none, idles_more}
+use Rattle.runs.proofs.Waits.{Early, early_first, early_more, waits_partner, waits_all}
 use Rattle.runs.proofs.run.Run.wait.Goals as goal
 
 pub loop-init : goal.loop-init
 loop-init g c =
     let mach = g.E.Engine.machine in
     let run = c.args.self.now in (
-      onward-none (mach run.engine) run.frame c.args.given,
-      idles-none (mach run.engine) run.frame c.args.given c.args.out.now,
-      early-first (mach run.engine) run.frame c.args.given c.args.out.now,
+      onward_none (mach run.engine) run.frame c.args.given,
+      idles_none (mach run.engine) run.frame c.args.given c.args.out.now,
+      early_first (mach run.engine) run.frame c.args.given c.args.out.now,
     )
 
 pub pass-given-requires : goal.pass-given-requires
@@ -30,10 +30,10 @@ loop-preserved g c =
     let e : l.counter - 1 + 1 ≡ l.counter + 1 - 1 = omega (arith, l.auto.counter) in (
       on,
       subst (λ n. Idles (mach run.engine) (mach q.new.self.engine) run.frame q.new.self.frame n c.args.given q.result c.args.out.now q.new.out) e
-          (idles-more (mach run.engine) (mach l.self.engine) (mach q.new.self.engine) run.frame l.self.frame q.new.self.frame
+          (idles_more (mach run.engine) (mach l.self.engine) (mach q.new.self.engine) run.frame l.self.frame q.new.self.frame
           (l.counter - 1) c.args.given l.given q.result c.args.out.now l.out q.new.out l.invariant.0.engine on.engine l.invariant.1 q.ensures.passed),
       subst (λ n. Early (mach run.engine) run.frame n c.args.given c.args.out.now) e
-          (early-more (mach run.engine) (mach l.self.engine) run.frame l.self.frame (l.counter - 1) c.args.given l.given c.in-Some.distance
+          (early_more (mach run.engine) (mach l.self.engine) run.frame l.self.frame (l.counter - 1) c.args.given l.given c.in-Some.distance
           c.args.out.now l.out (sym c.in-Some.ensures.value) l.invariant.1 l.invariant.2 (omega (arith, c.len.ensures.value, c.if-len-distance.false))),
     )
 
@@ -43,7 +43,7 @@ returns-then-len-distance g c =
     let run = c.args.self.now in
     let l = c.loop in
     record {
-      waited = waits-partner (mach run.engine) (mach l.self.engine) run.frame l.self.frame (l.counter - 1) c.args.given l.given c.in-Some.distance
+      waited = waits_partner (mach run.engine) (mach l.self.engine) run.frame l.self.frame (l.counter - 1) c.args.given l.given c.in-Some.distance
           c.args.out.now l.out (sym c.in-Some.ensures.value) l.invariant.1 l.invariant.2 (omega (arith, c.len.ensures.value, c.if-len-distance.true));
       onward = l.invariant.0;
     }
@@ -54,7 +54,7 @@ returns g c =
     let run = c.args.self.now in
     let l = c.loop in
     record {
-      waited = waits-all (mach run.engine) (mach l.self.engine) run.frame l.self.frame (l.counter - 1) c.args.given l.given c.in-Some.distance
+      waited = waits_all (mach run.engine) (mach l.self.engine) run.frame l.self.frame (l.counter - 1) c.args.given l.given c.in-Some.distance
           c.args.out.now l.out (sym c.in-Some.ensures.value) l.invariant.1 l.invariant.2 (omega (arith, c.loop-test.false, c.depth-of-end.ensures));
       onward = l.invariant.0;
     }
