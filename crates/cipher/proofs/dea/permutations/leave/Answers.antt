@@ -8,4 +8,4 @@ returns c =
     let l : ℕ = c.args.halves.0 in
     let r : ℕ = c.args.halves.1 in
     let whole : r * 2 ^ 32 % 2 ^ 64 ≡ r * 2 ^ 32 = mod-eq_of_lt (omega arith) in
-    c.permute-back.ensures ∙ ap ip_inverse (ap (λ (h : ℕ). bit_or h l) whole ∙ or_shifted r 32 l (omega arith))
+    c.permute_back.ensures ∙ ap ip_inverse (ap (λ (h : ℕ). bit_or h l) whole ∙ or_shifted r 32 l (omega arith))

@@ -11,9 +11,9 @@ loop-n-preserved c =
     let n : ℕ = c.loop-n.n in
     let i : ℕ = n / 64 in
     let four : ℕ = c.substitute.result in
-    filled_more (λ n. permuted_answer (n / 64) (s_box (n / 64) (n % 64))) 512 n (get_or c.permuted-answers-answers.result (i * 16 + four) 0) c.loop-n.table
+    filled_more (λ n. permuted_answer (n / 64) (s_box (n / 64) (n % 64))) 512 n (get_or c.permuted_answers-answers.result (i * 16 + four) 0) c.loop-n.table
     c.loop-n.invariant c.loop-n-test.true
-    (c.permuted-answers-answers.ensures (i * 16 + four) (omega arith)
+    (c.permuted_answers-answers.ensures (i * 16 + four) (omega arith)
     ∙ ap₂ permuted_answer (div-mul-add i 16 four c.substitute.ensures.four) (mod-mul-add i 16 four c.substitute.ensures.four)
     ∙ ap (permuted_answer i) c.substitute.ensures.value)
 
