@@ -8,8 +8,8 @@ use Rattle.cipher.proofs.dea.schedule.first_halves.Goals as goal
 first-lt : (c : goal.After-select-x) → c.select-x.result / 2 ^ 28 < 2 ^ 28
 first-lt c = shr_lt 28 28 (subst (λ (x : ℕ). x < 2 ^ 56) (sym c.select-x.ensures) (select_lt 64 pc1_table c.args.key))
 
-pub overflow-cast-result : goal.overflow-cast-result
-overflow-cast-result c = let h = first-lt c in record { fits = omega arith }
+pub overflow_cast-result : goal.overflow_cast-result
+overflow_cast-result c = let h = first-lt c in record { fits = omega arith }
 
 pub returns : goal.returns
 unfolding pc1

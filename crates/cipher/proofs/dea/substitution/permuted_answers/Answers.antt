@@ -7,8 +7,8 @@ use Rattle.cipher.specs.Selects.{select_lt}
 use Rattle.cipher.proofs.Filled.{filled_more}
 use Rattle.cipher.proofs.dea.substitution.permuted_answers.Goals as goal
 
-pub overflow-cast-answers : goal.overflow-cast-answers
-overflow-cast-answers c =
+pub overflow_cast-answers : goal.overflow_cast-answers
+overflow_cast-answers c =
     let lt : c.select.result < 2 ^ 32 = subst (λ (x : ℕ). x < 2 ^ 32) (sym c.select.ensures) (select_lt 32 p_table _) in
     omega arith
 

@@ -4,11 +4,11 @@ use Rattle.cipher.specs.Words.{select, bit}
 use Rattle.cipher.specs.Selects.{select_lt, select_push, place_at, push_bit}
 use Rattle.cipher.proofs.dea.words.select.Goals as goal
 
-pub overflow-sub-bits : goal.overflow-sub-bits
-overflow-sub-bits c = (place_at c.args.width c.args.table.now c.requires.places c.loop-place.place-index c.loop-place-test.true).1
+pub overflow_sub-bits : goal.overflow_sub-bits
+overflow_sub-bits c = (place_at c.args.width c.args.table.now c.requires.places c.loop-place.place-index c.loop-place-test.true).1
 
-pub overflow-shr-bits : goal.overflow-shr-bits
-overflow-shr-bits c =
+pub overflow_shr-bits : goal.overflow_shr-bits
+overflow_shr-bits c =
     let h = place_at c.args.width c.args.table.now c.requires.places c.loop-place.place-index c.loop-place-test.true in
     omega arith
 
