@@ -13,8 +13,8 @@ loop-cycle-preserved g c =
     let inv = c.loop-cycle.invariant in
     let h : i < length inputs = c.loop-cycle-test.true in (
       later_more m (machine c.loop-cycle.engine) (machine c.clock-answer.new.self) inputs i h inv.0 c.clock-answer.ensures.after,
-      answers_more m (machine c.loop-cycle.engine) inputs c.args.answers.now c.loop-cycle.answers c.write-down.new.answers
-          c.clock-answer.result i h inv.0 c.clock-answer.ensures.answer inv.1 c.write-down.ensures,
+      answers_more m (machine c.loop-cycle.engine) inputs c.args.answers.now c.loop-cycle.answers c.write_down.new.answers
+          c.clock-answer.result i h inv.0 c.clock-answer.ensures.answer inv.1 c.write_down.ensures,
     )
 
 pub returns : goal.returns

@@ -5,9 +5,9 @@ use Rattle.engines.proofs.line.Line.advance.Goals as goal
 pub returns : goal.returns
 returns g c =
     let l = c.args.self.now in
-    let one = c.turn-from-first.ensures in
-    let two = c.turn-from-second.ensures in
+    let one = c.turn-from_first.ensures in
+    let two = c.turn-from_second.ensures in
     let n : length l.table.blocks ≡ 3 = simp (one.after, length-set) at one.three in
-    turns_advance g.A.Cipher g.B.Cipher g.C.Cipher l c.turn-from-first.new.self c.turn-from-second.new.self c.turn.new.self
-    c.args.input c.turn-from-first.result c.turn-from-second.result n one.after one.handed two.after two.handed
+    turns_advance g.A.Cipher g.B.Cipher g.C.Cipher l c.turn-from_first.new.self c.turn-from_second.new.self c.turn.new.self
+    c.args.input c.turn-from_first.result c.turn-from_second.result n one.after one.handed two.after two.handed
     c.turn.ensures.after
