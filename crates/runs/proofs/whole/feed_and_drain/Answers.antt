@@ -4,22 +4,22 @@ use Rattle.std.proofs.lemmas.Result.{err_from_is_err_and}
 use Rattle.runs.proofs.Emptying.{same_then, refused_at_once, never_refused, fed_and_drained}
 use Rattle.runs.proofs.whole.feed_and_drain.Goals as goal
 
-pub returns-in-err-given : goal.returns-in-err-given
-returns-in-err-given g c =
-    let p = err_from_is_err_and c.from-residual.result c.from-residual.ensures.1 in
-    let feed = c.in-err-given.ensures in
+pub returns-in_err-given : goal.returns-in_err-given
+returns-in_err-given g c =
+    let p = err_from_is_err_and c.from_residual.result c.from_residual.ensures.1 in
+    let feed = c.in_err-given.ensures in
     rw (p.1, p.2)
     (record { emptied = refused_at_once _ _ _ _ _ _ _ _ feed.refusal feed.answered; within = tt; same = feed.same.0 })
 
-pub returns-in-err-drained : goal.returns-in-err-drained
-returns-in-err-drained g c =
-    let p = err_from_is_err_and c.from-residual-in-err-drained.result c.from-residual-in-err-drained.ensures.1 in
-    let feed = c.in-ok-given.ensures in
-    let drain = c.in-err-drained.ensures in
+pub returns-in_err-drained : goal.returns-in_err-drained
+returns-in_err-drained g c =
+    let p = err_from_is_err_and c.from_residual-in_err-drained.result c.from_residual-in_err-drained.ensures.1 in
+    let feed = c.in_ok-given.ensures in
+    let drain = c.in_err-drained.ensures in
     let run = c.args.run.now in
     let fed = c.feed.new.self in
     let emptied = c.drain.new.self in
-    let given = c.in-ok-given.given in
+    let given = c.in_ok-given.given in
     let machine = g.E.Engine.machine in
     let rest = take_rest c.feed.new.out given in
     rw p.1
@@ -31,12 +31,12 @@ returns-in-err-drained g c =
 
 pub returns : goal.returns
 returns g c =
-    let feed = c.in-ok-given.ensures in
-    let drain = c.in-ok-drained.ensures in
+    let feed = c.in_ok-given.ensures in
+    let drain = c.in_ok-drained.ensures in
     let run = c.args.run.now in
     let fed = c.feed.new.self in
     let emptied = c.drain.new.self in
-    let given = c.in-ok-given.given in
+    let given = c.in_ok-given.given in
     let machine = g.E.Engine.machine in
     let rest = take_rest c.feed.new.out given in
     record {

@@ -6,8 +6,8 @@ pub returns : goal.returns
 returns g c =
     let machine = g.E.Engine.machine in
     let run = c.args.run in
-    let last = c.feed-twice-answer.new.run in
+    let last = c.feed_twice-answer.new.run in
     let cartridge = c.close.result in
     closed_then (machine run.engine) (machine last.engine) (machine cartridge.engine) run.frame (last.frame.before + last.frame.taken)
-    cartridge.count c.args.first.now c.args.second.now c.args.out.now c.feed-twice-answer.new.out c.feed-twice-answer.result
-    (ap machine c.close.ensures.engine) c.close.ensures.count c.feed-twice-answer.ensures
+    cartridge.count c.args.first.now c.args.second.now c.args.out.now c.feed_twice-answer.new.out c.feed_twice-answer.result
+    (ap machine c.close.ensures.engine) c.close.ensures.count c.feed_twice-answer.ensures

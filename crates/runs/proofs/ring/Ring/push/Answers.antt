@@ -5,8 +5,8 @@ use Rattle.runs.specs.Rings.{items}
 use Rattle.runs.proofs.RingPlaces.{length_items, pushed_items}
 use Rattle.runs.proofs.ring.Ring.push.Goals as goal
 
-pub returns-then-self-lt-GREATEST-DEPTH : goal.returns-then-self-lt-GREATEST-DEPTH
-returns-then-self-lt-GREATEST-DEPTH c =
+pub returns-then-self-lt-GREATEST_DEPTH : goal.returns-then-self-lt-GREATEST_DEPTH
+returns-then-self-lt-GREATEST_DEPTH c =
     let ring = c.args.self.now in
     let size : length ring.places ≡ the_greatest_depth = search rules in
     let long = length_items ring.places the_greatest_depth ring.oldest ring.count size ring.within.0 ring.within.1 in
@@ -17,8 +17,8 @@ returns-then-self-lt-GREATEST-DEPTH c =
       most = omega (arith, ap length after ∙ length_push (items ring) c.args.number);
     }
 
-pub returns-else-self-lt-GREATEST-DEPTH : goal.returns-else-self-lt-GREATEST-DEPTH
-returns-else-self-lt-GREATEST-DEPTH c =
+pub returns-else-self-lt-GREATEST_DEPTH : goal.returns-else-self-lt-GREATEST_DEPTH
+returns-else-self-lt-GREATEST_DEPTH c =
     let ring = c.args.self.now in
     let size : length ring.places ≡ the_greatest_depth = search rules in
     let long = length_items ring.places the_greatest_depth ring.oldest ring.count size ring.within.0 ring.within.1 in

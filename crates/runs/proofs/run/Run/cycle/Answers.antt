@@ -12,17 +12,17 @@ returns g c =
     let mach1 = mach c.clock-answer.new.self in
     let v0 = view run.frame in
     let v1 = view c.admit-input.new.self in
-    let v2 = view c.count-cycle.new.self in
+    let v2 = view c.count_cycle.new.self in
     let v3 = view c.release.new.self in
     let entered = c.admit-input.ensures in
     let turn = c.clock-answer.ensures in
-    let count = c.count-cycle.ensures in
+    let count = c.count_cycle.ensures in
     let out = c.release.ensures in
     record {
       cycled =
           cycled mach0 mach1 run.frame.mode run.frame.way v0 v1 v3 c.admit-input.result c.clock-answer.result c.release.result
           turn.answer turn.after
-          (released_at run.frame.mode c.count-cycle.new.self.mode run.frame.way c.count-cycle.new.self.way (counted v1) v2 v3
+          (released_at run.frame.mode c.count_cycle.new.self.mode run.frame.way c.count_cycle.new.self.way (counted v1) v2 v3
           c.clock-answer.result c.release.result (count.same.0 ∙ entered.same.0) (count.same.1 ∙ entered.same.1) count.after out.after)
           c.args.unit entered.after;
       same = (

@@ -47,7 +47,7 @@ returns-then-left-units g c =
     let xs = c.args.out.now in
     let within = f.within in
     let no = refuses_many (length (items f.pending)) (row f.mode).width (f.before + f.taken) us (length xs)
-    (omega (arith, c.if-out-wanted.false, c.len.ensures.value)) (sym c.in-default.ensures) (omega (arith, c.if-left-units.true)) in
+    (omega (arith, c.if-out-wanted.false, c.len.ensures.value)) (sym c.in_default.ensures) (omega (arith, c.if-left-units.true)) in
     record {
       answered = feed_refused (g.E.Engine.machine run.engine) f us xs _ no;
       refusal = sym (no (gave []));
@@ -67,7 +67,7 @@ returns g c =
     let p = c.pump in
     let within = f.within in
     let yes = accepts (length (items f.pending)) (row f.mode).width (f.before + f.taken) us (length xs)
-    (omega (arith, c.if-out-wanted.false, c.len.ensures.value)) (sym c.in-default.ensures) (omega (arith, c.if-left-units.false)) in
+    (omega (arith, c.if-out-wanted.false, c.len.ensures.value)) (sym c.in_default.ensures) (omega (arith, c.if-left-units.false)) in
     record {
       answered = feed_taken (mach run.engine) (mach p.new.self.engine) f p.new.self.frame us xs p.new.out p.result
           p.ensures.onward.engine yes p.ensures.pumped;

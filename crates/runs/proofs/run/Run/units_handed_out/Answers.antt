@@ -6,5 +6,5 @@ use Rattle.runs.proofs.run.Run.units_handed_out.Goals as goal
 pub returns : goal.returns
 returns g c =
     let f = c.args.self.now.frame in
-    let is : c.saturating-sub.result ≡ f.taken - length (items f.pending) = search rules in
+    let is : c.saturating_sub.result ≡ f.taken - length (items f.pending) = search rules in
     record { value = is; due = λ calls stands. is ∙ handed_out_told _ f calls stands }
