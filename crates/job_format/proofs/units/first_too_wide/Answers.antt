@@ -12,8 +12,8 @@ returns-then-not-admits c =
     let p = placed us c.loop-unit.index c.in-Some.unit c.in-Some.ensures in
     wide_here (row c.args.mode).width us c.loop-unit.index _ c.in-Some.unit p.0 p.1 c.if-not-admits.ensures c.loop-unit.invariant
 
-pub overflow-add-index : goal.overflow-add-index
-overflow-add-index c =
+pub overflow_add-index : goal.overflow_add-index
+overflow_add-index c =
     let p = placed _ c.loop-unit.index c.in-Some.unit c.in-Some.ensures in
     omega (arith, p.0, units_in_few (row c.args.mode).width c.args.bytes.now)
 
@@ -31,4 +31,4 @@ loop-unit-smaller c =
 pub returns : goal.returns
 returns c =
     let us = units_in (row c.args.mode).width c.args.bytes.now in
-    wide_nowhere (row c.args.mode).width us c.loop-unit.index _ (not_placed us c.loop-unit.index c.in-default.ensures) c.loop-unit.invariant
+    wide_nowhere (row c.args.mode).width us c.loop-unit.index _ (not_placed us c.loop-unit.index c.in_default.ensures) c.loop-unit.invariant

@@ -14,5 +14,5 @@ loop-number-preserved g c =
     let input : Option Work = Some (record { block = i; direction = Forward }) in
     let k : ℕ = c.args.cycles - (i + 1) in
     let more : suc k ≡ c.args.cycles - i = omega arith in
-    let came : c.unwrap-or-all.result ≡ unwrap_or (answered mach input) 0 = c.unwrap-or-all.ensures ∙ ap (λ o. unwrap_or o 0) c.clock.ensures.answer in
+    let came : c.unwrap_or-all.result ≡ unwrap_or (answered mach input) 0 = c.unwrap_or-all.ensures ∙ ap (λ o. unwrap_or o 0) c.clock.ensures.answer in
     ap₂ (λ (m : Machine) (x : ℕ). gathered k (i + 1) m (bit_xor all x)) c.clock.ensures.after came ∙ ap (λ (n : ℕ). gathered n i mach all) more ∙ c.loop-number.invariant
