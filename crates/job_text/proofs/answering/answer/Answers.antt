@@ -9,21 +9,21 @@ use Rattle.job_text.specs.Texts.{answer_text}
 use Rattle.job_text.proofs.Told.{report_told, refusal_told}
 use Rattle.job_text.proofs.answering.answer.Goals as goal
 
-pub returns-in-err-room : goal.returns-in-err-room
-returns-in-err-room c =
-    let p = err_from_is_err_and c.from-residual.result c.from-residual.ensures.1 in
+pub returns-in_err-room : goal.returns-in_err-room
+returns-in_err-room c =
+    let p = err_from_is_err_and c.from_residual.result c.from_residual.ensures.1 in
     rw p.1 (record { text = tt; theorem = theorem; runs = jobs_are_runs; restoring = jobs_restore })
 
 pub returns-in-Ok : goal.returns-in-Ok
 returns-in-Ok c =
-    let full : length c.as-mut-slice-out.result.now ≡ data_limit = search rules in
+    let full : length c.as_mut_slice-out.result.now ≡ data_limit = search rules in
     let run = c.in-Ok.ensures in
     let told = report_told _ _ _ _ run.answer run.output ∙ ap (λ room. answer_text (meaning c.args.job.now room)) full in
-    record { text = IfOk-weaker c.report-lines.result _ _ (λ s e. e ∙ told) c.report-lines.ensures; theorem = run.theorem; runs = run.runs; restoring = run.restoring }
+    record { text = IfOk-weaker c.report_lines.result _ _ (λ s e. e ∙ told) c.report_lines.ensures; theorem = run.theorem; runs = run.runs; restoring = run.restoring }
 
 pub returns : goal.returns
 returns c =
-    let full : length c.as-mut-slice-out.result.now ≡ data_limit = search rules in
+    let full : length c.as_mut_slice-out.result.now ≡ data_limit = search rules in
     let run = c.in-Err.ensures in
     let told = refusal_told _ _ run.answer ∙ ap (λ room. answer_text (meaning c.args.job.now room)) full in
-    record { text = IfOk-weaker c.refusal-line.result _ _ (λ s e. e ∙ told) c.refusal-line.ensures; theorem = run.theorem; runs = run.runs; restoring = run.restoring }
+    record { text = IfOk-weaker c.refusal_line.result _ _ (λ s e. e ∙ told) c.refusal_line.ensures; theorem = run.theorem; runs = run.runs; restoring = run.restoring }

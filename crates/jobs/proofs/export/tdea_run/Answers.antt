@@ -15,7 +15,7 @@ returns-in-Ok c =
 pub returns-in-Err : goal.returns-in-Err
 returns-in-Err c =
     let run = c.in-Err.ensures in
-    let minus : to_z w64 (of_z w64 (pos 0 -ℤ to_z w64 (of_z w64 c.from.result))) ≡ neg_ℤ (pos c.number.result) = omega (arith, ints, c.from.ensures, c.number.type-inv) in
+    let minus : to_z w64 (of_z w64 (pos 0 -ℤ to_z w64 (of_z w64 c.from.result))) ≡ neg_ℤ (pos c.number.result) = omega (arith, ints, c.from.ensures, c.number.type_inv) in
     record {
       answer = minus ∙ ap (λ n. neg_ℤ (pos n)) c.number.ensures ∙ ap signed run.answer;
       output = run.output;

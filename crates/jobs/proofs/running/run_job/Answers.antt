@@ -8,24 +8,24 @@ use Rattle.jobs.proofs.Told.{fields_refused, task_refused, task_done, limited}
 use Rattle.jobs.proofs.Restoring.{jobs_restore}
 use Rattle.jobs.proofs.running.run_job.Goals as goal
 
-pub returns-in-err-fields : goal.returns-in-err-fields
-returns-in-err-fields c =
-    let p = err_from_is_err_and c.from-residual.result c.from-residual.ensures.1 in
-    let t = fields_refused c.args.job.now c.args.out.now _ c.in-err-fields.ensures.value in
+pub returns-in_err-fields : goal.returns-in_err-fields
+returns-in_err-fields c =
+    let p = err_from_is_err_and c.from_residual.result c.from_residual.ensures.1 in
+    let t = fields_refused c.args.job.now c.args.out.now _ c.in_err-fields.ensures.value in
     rw (p.1, p.2) (record { answer = t.0; output = t.1; unchanged = refl; limit = tt; theorem = theorem; runs = jobs_are_runs; restoring = jobs_restore })
 
-pub returns-in-err-task : goal.returns-in-err-task
-returns-in-err-task c =
-    let p = err_from_is_err_and c.from-residual-in-err-task.result c.from-residual-in-err-task.ensures.1 in
-    let fields = c.in-ok-fields.fields in
-    let t = task_refused c.args.job.now c.args.out.now (parts_in fields) c.in-ok-fields.ensures.value _ c.in-err-task.ensures.value in
+pub returns-in_err-task : goal.returns-in_err-task
+returns-in_err-task c =
+    let p = err_from_is_err_and c.from_residual-in_err-task.result c.from_residual-in_err-task.ensures.1 in
+    let fields = c.in_ok-fields.fields in
+    let t = task_refused c.args.job.now c.args.out.now (parts_in fields) c.in_ok-fields.ensures.value _ c.in_err-task.ensures.value in
     rw (p.1, p.2) (record { answer = t.0; output = t.1; unchanged = refl; limit = tt; theorem = theorem; runs = jobs_are_runs; restoring = jobs_restore })
 
 pub returns : goal.returns
 returns c =
-    let fields = c.in-ok-fields.fields in
-    let task = c.in-ok-task.task in
+    let fields = c.in_ok-fields.fields in
+    let task = c.in_ok-task.task in
     let asked = task_asked task fields.«data».now in
-    let t = task_done c.args.job.now c.args.out.now (parts_in fields) c.in-ok-fields.ensures.value asked
-    c.run.new.out c.run.result c.in-ok-task.ensures.value c.run.ensures.answer c.run.ensures.output in
-    record { answer = t.0; output = t.1; unchanged = refl; limit = limited asked (length c.args.out.now) c.run.result c.in-ok-task.ensures.ready c.run.ensures.answer; theorem = theorem; runs = jobs_are_runs; restoring = jobs_restore }
+    let t = task_done c.args.job.now c.args.out.now (parts_in fields) c.in_ok-fields.ensures.value asked
+    c.run.new.out c.run.result c.in_ok-task.ensures.value c.run.ensures.answer c.run.ensures.output in
+    record { answer = t.0; output = t.1; unchanged = refl; limit = limited asked (length c.args.out.now) c.run.result c.in_ok-task.ensures.ready c.run.ensures.answer; theorem = theorem; runs = jobs_are_runs; restoring = jobs_restore }
