@@ -1,4 +1,6 @@
 //! Lists of calls on a cartridge, what each call is due, and what holds of every list whose answers were due.
+#![tactic(auto)]
+
 ghost use Rattle.std.specs.Prelude.{◌≡◌};
 ghost use Rattle.calls.specs.Limits.{unit_limit};
 ghost use Rattle.calls.specs.Theorem.{Theorem};

@@ -1,4 +1,6 @@
 //! Block ciphers: what one means, the DEA by its published tables, and the triple of any three ciphers.
+#![tactic(auto)]
+
 pub mod bytes;
 pub mod dea;
 pub mod triple;

@@ -1,4 +1,5 @@
 //! What the core does, for a person at the bench, up to a settlement file that travels over a bad line.
+#![tactic(auto)]
 
 mod ciphering;
 mod line;

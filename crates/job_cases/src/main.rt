@@ -1,5 +1,7 @@
 //! Runs the jobs that standard input lists, and some that are long or have little room, and prints what the user is told of each. What
 //! is due stands in the file `stdout`; for the listed jobs it is compared with an implementation of its own by the tests in Rust.
+#![tactic(auto)]
+
 mod hex_text;
 mod little_room;
 mod long;

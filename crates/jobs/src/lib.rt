@@ -1,4 +1,6 @@
 //! Jobs: what the bytes of one ask for, and running it on an engine of its own.
+#![tactic(auto)]
+
 mod carrying;
 pub mod export;
 mod key_set;

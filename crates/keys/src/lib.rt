@@ -1,4 +1,6 @@
 //! Keys: loaded from lent bytes, which are zero afterwards, and turned into ciphers.
+#![tactic(auto)]
+
 pub mod building;
 mod guard;
 pub mod loading;

@@ -1,4 +1,6 @@
 //! Runs published known answers for single DEA, both ways, and the published example of triple DEA stage by stage.
+#![tactic(auto)]
+
 mod tables;
 
 use cipher::Cipher;

@@ -1,4 +1,6 @@
 //! Holds the line's answers to the triple's, over cycles with gaps and both directions as they are drawn.
+#![tactic(auto)]
+
 mod tally;
 
 use cipher::triple::Triple;

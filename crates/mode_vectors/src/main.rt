@@ -1,4 +1,5 @@
 //! Known values of every mode, sent on the line and received on a plain engine, and the refusals at the bounds.
+#![tactic(auto)]
 
 mod bounds;
 mod vectors;

@@ -60,8 +60,8 @@ fn ciphers(keys: [u64; 3]) -> (Dea, Dea, Dea) {
 /// What a refusal is, as an error of this program.
 fn failed(rt: &HostRuntime, refusal: Refusal) -> anyhow::Error {
     match format!(in rt.alloc(); "{refusal}") {
-        Ok(text) => text.into(),
-        Err(_) => "refused".into(),
+        Ok(text) => anyhow!("{text}"),
+        Err(_) => anyhow!("refused"),
     }
 }
 

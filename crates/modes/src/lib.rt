@@ -1,4 +1,6 @@
 //! The seven modes of operation over any block cipher: their figures, their equations and what they promise a receiver.
+#![tactic(auto)]
+
 pub mod family;
 pub mod mode;
 pub mod order;

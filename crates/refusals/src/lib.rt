@@ -1,5 +1,7 @@
 //! Why a call is refused. Every layer refuses by this one type: a variant for each reason, with the
 //! number and the detail that the user is told.
+#![tactic(auto)]
+
 ghost use Rattle.std.specs.Prelude.{◌≡◌};
 ghost use Rattle.refusals.specs.Refusals.{number_of, detail_of};
 

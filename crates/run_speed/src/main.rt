@@ -1,4 +1,6 @@
 //! Times runs over the line: nanoseconds a unit, in tenths, for some codes. It measures only where it is given a word, since what it then prints is never the same.
+#![tactic(auto)]
+
 use anyhow::anyhow;
 use cipher::dea::Dea;
 use engines::engine::Engine;

@@ -1,4 +1,6 @@
 //! Cartridges and the runs on them, over any engine.
+#![tactic(auto)]
+
 pub mod cartridge;
 pub mod ends;
 mod frame;

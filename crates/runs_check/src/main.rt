@@ -1,5 +1,7 @@
 //! Drives random lists of calls on cartridges, all modes, both ways, plain engine and line, and prints a digest of every answer, list
 //! and number. What it must print comes from a model that is written apart from this code.
+#![tactic(auto)]
+
 mod digest;
 mod drawing;
 mod driving;

@@ -1,4 +1,6 @@
 //! Runs the job on standard input, and prints what became of it.
+#![tactic(auto)]
+
 use job_text::answering::answer;
 use std::io::Read;
 

@@ -1,4 +1,6 @@
 //! What tests and measurements call from C: triple DEA over blocks in place, and what the speed of a line is compared with. No product code rests on this crate.
+#![tactic(auto)]
+
 pub mod speeds;
 
 ghost use Rattle.std.specs.Prelude.{◌≡◌, map, length, replicate};
