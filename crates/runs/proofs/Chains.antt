@@ -1,5 +1,5 @@
 -- What goes into the chain, unit by unit, by family: f is the family, w its width, δ as many as the initial values.
-use Rattle.std.proofs.Common.{◌≡◌, ℕ, ◌+◌, ◌-◌, ◌<◌, ◌≤◌, List, [], ◌∷◌, ◌++◌, length, get_or, drop, Some, None, sym, ap, ◌∙◌, div-one, add-one, arith}
+use Rattle.std.proofs.Common.{◌≡◌, ℕ, ◌+◌, ◌<◌, ◌≤◌, List, [], ◌∷◌, ◌++◌, length, get_or, drop, Some, None, sym, ap, ◌∙◌, div-one, add-one, arith}
 use lib.Bits.{bit_xor, xor_comm, xor_zero_r}
 use Rattle.std.proofs.lemmas.List.{append_assoc, get_or-take, length-append, length-take-le, take_more, drop-append-le, drop-drop}
 use Rattle.modes.specs.declared.family.Family.{Family}

@@ -11,7 +11,7 @@ use Rattle.modes.specs.declared.way.Way.{Way}
 use Rattle.modes.specs.Table.{row, distance_of}
 use Rattle.modes.specs.Values.{listed}
 use Rattle.modes.proofs.Receiving.{length_results}
-use Rattle.calls.specs.Stretches.{passed, inside}
+use Rattle.calls.specs.Stretches.{passed}
 use Rattle.calls.specs.Calls.{Answer, gave, refused, Calls, drained, order_of, way_of, taken, stretch}
 use Rattle.calls.specs.Due.{distance_in, inside_in, results_in, refusal_to_drain, due_drain, cycles_passed, Follows}
 use Rattle.calls.proofs.Stretching.{inside_most}

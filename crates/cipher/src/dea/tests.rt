@@ -29,7 +29,8 @@ fn rounds_of_the_worked_example(rt: HostRuntime) {
     assert_eq!(rt; halves, (0xCC00CCFF, 0xF0AAF0AA));
     for i in 0..16 {
         let (key, left, right) = ROUNDS[i];
-        assert_eq!(rt; dea.round_keys[i], key);
+        let round_key = dea.round_keys[i];
+        assert_eq!(rt; round_key, key);
         halves = dea.round(key, halves);
         assert_eq!(rt; halves, (left, right));
     }

@@ -1,5 +1,4 @@
 use Rattle.std.proofs.Common.{◌≡◌, ℕ, ◌%◌, sym, ap, ◌∙◌, arith}
-use Rattle.job_format.specs.UnitBytes.{unit_size}
 use Rattle.jobs.proofs.Checked.{refused_wide, refused_room, passed}
 use Rattle.jobs.proofs.task.check_data.Goals as goal
 

@@ -1,4 +1,4 @@
-use Rattle.std.proofs.Common.{◌+◌, ◌-◌, [], length, sym, refl, ap, arith}
+use Rattle.std.proofs.Common.{◌+◌, [], length, sym, refl, ap, arith}
 use Rattle.modes.specs.Table.{row}
 use Rattle.calls.specs.Calls.{gave}
 use Rattle.runs.specs.Rings.{items}
