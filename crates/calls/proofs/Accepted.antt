@@ -24,10 +24,10 @@ pub record Accepted (width count : ℕ) (us hs due : List ℕ) : Type 0 where
   pub few : count + length us ≤ unit_limit
   pub gives : hs ≡ due
 
-pub feed_accepted : (in-engine width count : ℕ) (us : List ℕ) (room : ℕ) (hs due : List ℕ)
-    → gave hs ≡ refusal_to_feed in-engine width count us room (gave due) → Accepted width count us hs due
-feed_accepted in-engine width count us room hs due e =
-    let p = passes (ltb room (in-engine + length us)) (first_wide width 0 us) (ltb unit_limit (count + length us)) _ _ _ e in
+pub feed_accepted : (in_engine width count : ℕ) (us : List ℕ) (room : ℕ) (hs due : List ℕ)
+    → gave hs ≡ refusal_to_feed in_engine width count us room (gave due) → Accepted width count us hs due
+feed_accepted in_engine width count us room hs due e =
+    let p = passes (ltb room (in_engine + length us)) (first_wide width 0 us) (ltb unit_limit (count + length us)) _ _ _ e in
     record { narrow = none_wide width 0 us p.0; few = ltb-false _ _ p.1; gives = p.2 }
   where
     passes : (small : Bool) (wide : Option ℕ) (many : Bool) (a b : Refusal) (at : ℕ → Refusal)
@@ -38,8 +38,8 @@ feed_accepted in-engine width count us room hs due e =
     passes false None true a b at e = let z : ◌≡◌ {A = ℕ} 0 1 = cc in absurd (omega arith)
     passes false None false a b at e = (refl, refl, cc)
 
-pub drain_gives : (in-engine room : ℕ) (hs due : List ℕ) → gave hs ≡ refusal_to_drain in-engine room (gave due) → hs ≡ due
-drain_gives in-engine room hs due e = passes (ltb room in-engine) _ e
+pub drain_gives : (in_engine room : ℕ) (hs due : List ℕ) → gave hs ≡ refusal_to_drain in_engine room (gave due) → hs ≡ due
+drain_gives in_engine room hs due e = passes (ltb room in_engine) _ e
   where
     passes : (small : Bool) (a : Refusal) → gave hs ≡ cond small (refused a) (gave due) → hs ≡ due
     passes true a e = let z : ◌≡◌ {A = ℕ} 0 1 = cc in absurd (omega arith)

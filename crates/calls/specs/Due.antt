@@ -32,15 +32,15 @@ results_in F G calls us a b = drop a (results F G (order_of calls).mode (way_of 
 
 -- refused, in this order, for too little room, a unit that is too wide, or more units than the cartridge still takes
 abbrev pub refusal_to_feed : ℕ → ℕ → ℕ → List ℕ → ℕ → Answer → Answer
-refusal_to_feed in-engine width count us room otherwise =
-    cond (nat_lt room (in-engine + length us)) (refused (OutputLength (in-engine + length us)))
+refusal_to_feed in_engine width count us room otherwise =
+    cond (nat_lt room (in_engine + length us)) (refused (OutputLength (in_engine + length us)))
     (elim (first_wide width 0 us) [
       | Some i ↦ refused (UnitWidth i)
       | None ↦ cond (nat_lt unit_limit (count + length us)) (refused (UnitLimit (unit_limit - count))) otherwise
     ])
 
 abbrev pub refusal_to_drain : ℕ → ℕ → Answer → Answer
-refusal_to_drain in-engine room otherwise = cond (nat_lt room in-engine) (refused (OutputLength in-engine)) otherwise
+refusal_to_drain in_engine room otherwise = cond (nat_lt room in_engine) (refused (OutputLength in_engine)) otherwise
 
 -- a feed hands out what comes out until its last unit enters
 abbrev pub due_feed : (ℕ → ℕ) → (ℕ → ℕ) → ℕ → Calls true → List ℕ → ℕ → Answer

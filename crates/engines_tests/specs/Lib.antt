@@ -1,3 +1,3 @@
 pub mod Toys
 pub mod Draws
-pub mod CrossedCipherLemmas
+pub mod Crossing

@@ -3,7 +3,7 @@ ghost use Rattle.engines_tests.specs.Toys.{added, crossed, rotated, rotated_back
 ghost use Rattle.std.proofs.Common.{rules, mod-lt, pow_pos};
 ghost use Rattle.std.specs.Prelude.{ℕ, ◌%◌, ◌^◌, ◌<◌, bit_xor};
 ghost use Rattle.std.proofs.lemmas.Nat.{xor_lt};
-ghost use Rattle.engines_tests.specs.CrossedCipherLemmas.{crossed_twice};
+ghost use Rattle.engines_tests.specs.Crossing.{crossed_twice};
 
 use cipher::{Block, Cipher};
 

@@ -60,9 +60,9 @@ unit_written n us xs ys i p e most below l here is =
     let before : List ℕ = flat_map f (take i us) in
     let size : length (f u) ≡ n = length_last_bytes n u most in
     let far : length before ≡ n * i = length_joined_bytes n (take i us) most ∙ ap (λ (k : ℕ). n * k) (length-take-le i us (omega arith)) in
-    let at-end : e ≡ p + length before = omega arith in
+    let at_end : e ≡ p + length before = omega arith in
     let one_more : flat_map f (take (i + 1) us) ≡ before ++ f u = rw (take_more us i 0 below, joined_append f (take i us) (u ∷ []), append-nil (f u)) in
-    part_overwritten e (e + n - e) ys (f u) (omega arith) ∙ ap₂ (λ (xs : List ℕ) (k : ℕ). overwritten xs k (f u)) is at-end
+    part_overwritten e (e + n - e) ys (f u) (omega arith) ∙ ap₂ (λ (xs : List ℕ) (k : ℕ). overwritten xs k (f u)) is at_end
     ∙ overwritten_more xs p before (f u) l ∙ ap (overwritten xs p) (sym one_more)
 
 -- all of them

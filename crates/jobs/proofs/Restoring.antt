@@ -137,11 +137,11 @@ pub jobs_restore : JobsRestore
 jobs_restore job back room room' p q d all fields fields' means way_back fits =
     let parts = (format.read_was_written job p all fields).1 in
     let gives : and_then (task_of p room) (λ a. Ok (done a)) ≡ Ok d = ap (λ f. and_then f (λ p. and_then (task_of p room) (λ a. Ok (done a)))) (sym fields) ∙ means in
-    not_refused (task_of p room) _ d gives (λ a e done-is.
+    not_refused (task_of p room) _ d gives (λ a e done_is.
     not_refused (keys_loaded p.keys) _ a e (λ words keys-are e.
-    not_refused (opening_of p) _ a e (λ ow opening-is e.
+    not_refused (opening_of p) _ a e (λ ow opening_is e.
     not_refused (data_checked ow.0.mode p.«data» room) _ a e (λ _ checked e.
-    let t = turned_round p q d.bytes ow parts.3.1 way_back opening-is in
+    let t = turned_round p q d.bytes ow parts.3.1 way_back opening_is in
     let o = ow.0 in
     let mach = machine_under words in
     let asked : a ≡ record { words = words; opening = o; way = Enciphering; bytes = p.«data» } = cc in

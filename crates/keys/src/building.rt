@@ -1,6 +1,6 @@
 //! Ciphers from loaded keys. A key is used up by it, and nothing is refused.
 ghost use Rattle.std.specs.Prelude.{◌≡◌};
-ghost use Rattle.cipher.specs.Dea.{dea as deaOf, dea_inverse, triple_dea, triple_dea_inverse};
+ghost use Rattle.cipher.specs.Dea.{dea as dea_of, dea_inverse, triple_dea, triple_dea_inverse};
 ghost use Rattle.cipher.specs.Functions.{forward_of, inverse_of, triple_forward_of, triple_inverse_of};
 
 use crate::{KeyBundle, SingleKey};
@@ -10,7 +10,7 @@ use cipher::triple::Triple;
 impl SingleKey {
     /// Single DEA under this key.
     pub fn into_cipher(self) -> Dea
-        ensures forward { forward_of result ≡ deaOf self.word }
+        ensures forward { forward_of result ≡ dea_of self.word }
         ensures inverse { inverse_of result ≡ dea_inverse self.word }
     {
         Dea::new(self.word)
@@ -20,7 +20,7 @@ impl SingleKey {
 impl KeyBundle {
     /// Single DEA under each of the three keys, first to third.
     pub fn into_ciphers(self) -> (Dea, Dea, Dea)
-        ensures forward { (forward_of result.0 ≡ deaOf self.first.word) × (forward_of result.1 ≡ deaOf self.second.word) × (forward_of result.2 ≡ deaOf self.third.word) }
+        ensures forward { (forward_of result.0 ≡ dea_of self.first.word) × (forward_of result.1 ≡ dea_of self.second.word) × (forward_of result.2 ≡ dea_of self.third.word) }
         ensures inverse { (inverse_of result.0 ≡ dea_inverse self.first.word) × (inverse_of result.1 ≡ dea_inverse self.second.word) × (inverse_of result.2 ≡ dea_inverse self.third.word) }
     {
         let first = self.first.into_cipher();

@@ -139,17 +139,17 @@ damage F G F' G' ends m ivs ps xs b hp hx hl d hd alike ne =
     let len : length cs ≡ length ps = length_results F G m Enciphering ivs ps (length ps) in
     let out : length (received F' G' m ivs xs) ≡ length xs = length_results F' G' m Deciphering ivs xs (length xs) in
     let hc = results_units F G m u Enciphering ivs ps (length ps) b hp (omega arith) in
-    let plain-sent = sent_back F G u m ivs ps b hp in
+    let plain_sent = sent_back F G u m ivs ps b hp in
     let at = λ (i : ℕ) (l : i < length xs). received_at F G F' G' ends m ivs xs i b hx l in
     let hl' : length xs ≤ length cs = omega arith in
     let e = bit_xor (get_or cs d 0) (get_or xs d 0) in
     record {
       right = λ i hi nd nr.
-          at i (omega arith) ∙ plain_right F G u w δ ivs cs xs d b.count hc hx hl' hd alike f (fit m) i (omega arith) nd nr ∙ plain-sent i (omega arith);
+          at i (omega arith) ∙ plain_right F G u w δ ivs cs xs d b.count hc hx hl' hd alike f (fit m) i (omega arith) nd nr ∙ plain_sent i (omega arith);
       struck =
           subst (λ q. Struck f (get_or ps d 0) q e) (sym (at d hd))
-          (plain_struck F G u w δ ivs cs xs d b.count hc hx hl' hd alike b.blocks ne f (fit m) (get_or ps d 0) (plain-sent d (omega arith)));
+          (plain_struck F G u w δ ivs cs xs d b.count hc hx hl' hd alike b.blocks ne f (fit m) (get_or ps d 0) (plain_sent d (omega arith)));
       reached = λ i hi r.
           subst (λ q. Reached f w (get_or ps i 0) q e) (sym (at i (omega arith)))
-          (plain_reached F G u w δ ivs cs xs d b.count hc hx hl' hd alike b.blocks ne f (fit m) i (get_or ps i 0) (omega arith) (plain-sent i (omega arith)) r);
+          (plain_reached F G u w δ ivs cs xs d b.count hc hx hl' hd alike b.blocks ne f (fit m) i (get_or ps i 0) (omega arith) (plain_sent i (omega arith)) r);
     }

@@ -112,9 +112,9 @@ refused_by xs ys e (gave hs) p = absurd p
 refused_by xs ys e (refused e') p = (ap refused (sym p.0), p.1)
 
 -- a feed that was not refused had room
-fed_room : (in-engine width count : ℕ) (us : List ℕ) (room : ℕ) (hs due : List ℕ)
-    → gave hs ≡ refusal_to_feed in-engine width count us room (gave due) → in-engine + length us ≤ room
-fed_room in-engine width count us room hs due e = ltb-false _ _ (passes (ltb room (in-engine + length us)) _ _ e)
+fed_room : (in_engine width count : ℕ) (us : List ℕ) (room : ℕ) (hs due : List ℕ)
+    → gave hs ≡ refusal_to_feed in_engine width count us room (gave due) → in_engine + length us ≤ room
+fed_room in_engine width count us room hs due e = ltb-false _ _ (passes (ltb room (in_engine + length us)) _ _ e)
   where
     passes : (small : Bool) (a : Refusal) (otherwise : Answer) → gave hs ≡ cond small (refused a) otherwise → small ≡ false
     passes true a otherwise e = let z : ◌≡◌ {A = ℕ} 0 1 = cc in absurd (omega arith)

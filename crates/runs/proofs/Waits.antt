@@ -78,6 +78,6 @@ module _ (mach mach' : Machine) (f f' : Frame) (n a b d : ℕ) (xs ys : List ℕ
   waits_all long = λ calls us out s p.
       let q = idle calls us out s _ p in
       let w = q.at_work in
-      let out-now = all_out (holding mach mach'.row) _ _ _ us _ s _ _ _ (view f') w.standing w.sound.deep (omega arith) in
+      let out_now = all_out (holding mach mach'.row) _ _ _ us _ s _ _ _ (view f') w.standing w.sound.deep (omega arith) in
       comes mach mach'.row f' calls us out ys s b n q (early calls us out s p)
       (λ d' e'. let pos = distance_pos calls d' e' in omega arith)

@@ -1,6 +1,6 @@
 //! Building single DEA, and a block under it.
 ghost use Rattle.std.specs.Prelude.{◌≡◌};
-ghost use Rattle.cipher.specs.Dea.{dea as deaOf, dea_inverse};
+ghost use Rattle.cipher.specs.Dea.{dea as dea_of, dea_inverse};
 ghost use Rattle.cipher.specs.Functions.{forward_of, inverse_of};
 ghost use Rattle.cipher.specs.KeySchedule.{round_keys_of};
 ghost use Rattle.cipher.specs.Feistel.{under_undo};
@@ -15,7 +15,7 @@ impl Dea {
     /// Single DEA under a key of 64 bits; the lowest bit of each byte has no effect.
     pub fn new(key: u64) -> Dea
         ensures keys { result.round_keys ≡ round_keys_of key }
-        ensures forward { forward_of result ≡ deaOf key }
+        ensures forward { forward_of result ≡ dea_of key }
         ensures inverse { inverse_of result ≡ dea_inverse key }
     {
         Dea {

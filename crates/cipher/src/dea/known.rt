@@ -2,14 +2,14 @@
 ghost use Rattle.std.specs.Prelude.{◌≡◌, ◌<◌, length, if◌then◌else◌, Some, None, nat_lt};
 ghost use Rattle.std.specs.Option.{option_map};
 ghost use Rattle.cipher.specs.Rows.{row as row_of, EachOnce};
-ghost use Rattle.cipher.specs.WorkedValues.{worked_value_list as workedValues, Hold};
+ghost use Rattle.cipher.specs.WorkedValues.{worked_value_list, Hold};
 
 use super::tables::S_BOXES;
 
 /// How many worked values of published examples are proved of the definitions: all that the table has.
 pub fn worked_values() -> usize
-    ensures hold { Hold workedValues }
-    ensures count { result ≡ length workedValues }
+    ensures hold { Hold worked_value_list }
+    ensures count { result ≡ length worked_value_list }
 {
     6
 }

@@ -1,6 +1,6 @@
 //! The initial permutation and its inverse, five exchanges each, and the halves between them.
 ghost use Rattle.std.specs.Prelude.{◌≡◌};
-ghost use Rattle.cipher.specs.Rounds.{ip, ip_inverse, halves as halvesOf, crossed};
+ghost use Rattle.cipher.specs.Rounds.{ip, ip_inverse, halves as halves_of, crossed};
 
 use super::words::exchange;
 
@@ -26,7 +26,7 @@ fn permute_back(block: u64) -> u64
 
 /// The halves (L, R) that the first round takes.
 pub(super) fn enter(block: u64) -> (u32, u32)
-    ensures { result ≡ halvesOf (ip block) }
+    ensures { result ≡ halves_of (ip block) }
 {
     let x = permute(block);
     ((x >> 32) as u32, (x & 0xffff_ffff) as u32)

@@ -1,13 +1,13 @@
 //! A round: from one pair of halves to the next.
 ghost use Rattle.std.specs.Prelude.{◌≡◌};
 ghost use Rattle.cipher.specs.Rounds.{f, round as rounded};
-ghost use Rattle.cipher.specs.Combined.{window as windowOf};
+ghost use Rattle.cipher.specs.Combined.{window as window_of};
 
 use super::Dea;
 
 /// The 32 bits with the last in front and the first behind: what E gives a box is six neighbours of these 34.
 fn window(right: u32) -> u64
-    ensures { result ≡ windowOf right }
+    ensures { result ≡ window_of right }
 {
     let x = right as u64;
     ((x & 1) << 33) ^ (x << 1) ^ (x >> 31)

@@ -7,8 +7,8 @@ use Rattle.job_format.proofs.WrittenOn.{room_for_one, room_for_fewer, without_ro
 use Rattle.job_format.proofs.units.write_units.Goals as goal
 use Rattle.job_format.proofs.units.write_units.Goals.{then-at-out-via-then-at-out, then-at-out-via-else-at-out+then-out-at}
 
-too-little-room : (c : goal.Joined-then-at-out) → length c.args.out.now < c.args.at + c.unit_size-size.result * length c.args.units.now
-too-little-room c =
+too_little_room : (c : goal.Joined-then-at-out) → length c.args.out.now < c.args.at + c.unit_size-size.result * length c.args.units.now
+too_little_room c =
     elim c.then-at-out.branch [
       | then-at-out-via-then-at-out w ↦ omega (arith, w.if-at-out.true)
       | then-at-out-via-else-at-out+then-out-at w ↦
@@ -18,23 +18,23 @@ too-little-room c =
 
 pub returns-then-at-out : goal.returns-then-at-out
 returns-then-at-out c =
-    let short = simp c.unit_size-size.ensures.value at (too-little-room c) in
+    let short = simp c.unit_size-size.ensures.value at (too_little_room c) in
     let none = without_room (row c.args.mode).width c.args.units.now c.args.out.now c.args.at short in
     record { value = none.0; output = none.1 }
 
 pub loop-unit-init : goal.loop-unit-init
 loop-unit-init c = (omega arith, none_written c.args.out.now c.args.at)
 
-next-within : (c : goal.After-to_be_bytes-bytes) → c.loop-unit.end + c.unit_size-size.result ≤ length c.args.out.now
-next-within c =
+next_within : (c : goal.After-to_be_bytes-bytes) → c.loop-unit.end + c.unit_size-size.result ≤ length c.args.out.now
+next_within c =
     room_for_one c.unit_size-size.result (length c.args.units.now) c.args.at (length c.args.out.now) c.loop-unit.unit-index
     c.loop-unit.end c.if-at-out.false c.if-out-at.false c.loop-unit-test.true c.loop-unit.invariant.0
 
 pub overflow_add-next : goal.overflow_add-next
-overflow_add-next c = omega (arith, next-within c)
+overflow_add-next c = omega (arith, next_within c)
 
 pub slice_bounds-copy_from_slice-end : goal.slice_bounds-copy_from_slice-end
-slice_bounds-copy_from_slice-end c = omega (arith, next-within c)
+slice_bounds-copy_from_slice-end c = omega (arith, next_within c)
 
 pub loop-unit-preserved : goal.loop-unit-preserved
 loop-unit-preserved c =

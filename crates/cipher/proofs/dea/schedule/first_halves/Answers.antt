@@ -5,11 +5,11 @@ use Rattle.cipher.specs.KeySchedule.{pc1}
 use Rattle.cipher.specs.Selects.{select_lt}
 use Rattle.cipher.proofs.dea.schedule.first_halves.Goals as goal
 
-first-lt : (c : goal.After-select-x) → c.select-x.result / 2 ^ 28 < 2 ^ 28
-first-lt c = shr_lt 28 28 (subst (λ (x : ℕ). x < 2 ^ 56) (sym c.select-x.ensures) (select_lt 64 pc1_table c.args.key))
+first_lt : (c : goal.After-select-x) → c.select-x.result / 2 ^ 28 < 2 ^ 28
+first_lt c = shr_lt 28 28 (subst (λ (x : ℕ). x < 2 ^ 56) (sym c.select-x.ensures) (select_lt 64 pc1_table c.args.key))
 
 pub overflow_cast-result : goal.overflow_cast-result
-overflow_cast-result c = let h = first-lt c in record { fits = omega arith }
+overflow_cast-result c = let h = first_lt c in record { fits = omega arith }
 
 pub returns : goal.returns
 unfolding pc1
@@ -17,5 +17,5 @@ returns c =
     let x : ℕ = c.select-x.result in
     record {
       value = ap (λ (y : ℕ). (x / 2 ^ 28, y)) (and_mask x 28) ∙ ap (λ (x : ℕ). (x / 2 ^ 28, x % 2 ^ 28)) c.select-x.ensures;
-      small = (first-lt c, mask_lt x 28);
+      small = (first_lt c, mask_lt x 28);
     }

@@ -1,3 +1,4 @@
+-- Crossing with the same mask twice gives a block back.
 use Rattle.std.specs.Prelude.{◌≡◌, ℕ, bit_xor}
 use Rattle.std.proofs.Common.{ap, ◌∙◌}
 use Rattle.std.specs.Int.Bits.{xor_assoc, xor_self, xor_zero_r}
