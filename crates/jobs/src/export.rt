@@ -1,12 +1,11 @@
-//! The one function for programs in C.
+//! The one function for programs in C, as Rattle has it. The crate `jobs_c` exports it.
 ghost use Rattle.std.specs.Prelude.{◌≡◌, length};
 ghost use Rattle.jobs.specs.Meaning.{meaning, reported, output_after, signed};
 
 use super::running::run_job;
 
 /// Runs a job. Answers how many bytes it wrote to the output, or minus the number of the refusal.
-#[unsafe(no_mangle)]
-pub extern "C" fn tdea_run(job: &[u8], out: &mut [u8]) -> i64
+pub fn tdea_run(job: &[u8], out: &mut [u8]) -> i64
     ensures answer { result ≡ signed (reported (meaning job.now (length out.old))) }
     ensures output { out.new ≡ output_after (meaning job.now (length out.old)) out.old }
     ensures unchanged { job.now ≡ job.now }
