@@ -34,24 +34,24 @@ def select(width, table, word):
 
 
 def round_keys(key):
-    both = select(64, T["pc1-table"], key)
+    both = select(64, T["pc1_table"], key)
     c, d = both >> 28, both & 0xFFFFFFF
     keys = []
-    for s in T["rotation-table"]:
+    for s in T["rotation_table"]:
         c = (c << s | c >> (28 - s)) & 0xFFFFFFF
         d = (d << s | d >> (28 - s)) & 0xFFFFFFF
-        keys.append(select(56, T["pc2-table"], c << 28 | d))
+        keys.append(select(56, T["pc2_table"], c << 28 | d))
     return keys
 
 
 # what each box makes of six bits, permuted: only to be quicker
-SP = [[select(32, T["p-table"],
-              T["s-table"][i * 64 + ((six >> 5) * 2 + (six & 1)) * 16 + (six >> 1 & 15)] << (28 - 4 * i))
+SP = [[select(32, T["p_table"],
+              T["s_table"][i * 64 + ((six >> 5) * 2 + (six & 1)) * 16 + (six >> 1 & 15)] << (28 - 4 * i))
        for six in range(64)] for i in range(8)]
 
 
 def f(right, key):
-    x = select(32, T["e-table"], right) ^ key
+    x = select(32, T["e_table"], right) ^ key
     out = 0
     for i in range(8):
         out ^= SP[i][x >> (42 - 6 * i) & 63]
@@ -59,11 +59,11 @@ def f(right, key):
 
 
 def crypt(keys, block):
-    x = select(64, T["ip-table"], block)
+    x = select(64, T["ip_table"], block)
     left, right = x >> 32, x & 0xFFFFFFFF
     for key in keys:
         left, right = right, left ^ f(right, key)
-    return select(64, T["ip-inverse-table"], right << 32 | left)
+    return select(64, T["ip_inverse_table"], right << 32 | left)
 
 
 class Dea:
