@@ -4,13 +4,11 @@ PREFIX ?= /usr/local
 
 # Proves, builds and runs the main program.
 run:
-	rt check demo
-	@echo
-	@target/bin/demo
+	cd crates/demo && rt run
 
-# Proves and builds the technician's program, target/bin/tdea.
+# Proves and builds the technician's program, crates/tdea/out/tdea, and runs its stored job.
 tdea:
-	rt check tdea
+	cd crates/tdea && rt run < stdin
 
 # The gate.
 test:
@@ -32,4 +30,4 @@ install: lib
 	install -m 644 build/lib/pkgconfig/tdea.pc "$(DESTDIR)$(PREFIX)/lib/pkgconfig/tdea.pc"
 
 clean:
-	rm -rf target build
+	rm -rf build crates/*/out
