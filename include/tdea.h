@@ -80,7 +80,7 @@ enum tdea_refusal {
    job and out must be valid for their lengths, and must not overlap, so a job cannot be run in place. A null pointer is right only with a length of 0.
    There is no other condition: any bytes may stand in the job, and any length may be given.
 
-   The function allocates nothing; on x86-64 a call was measured to need about 35 KB of stack. It keeps nothing from one call to the next, and does no input or output. Threads may call it at the same time, also with
+   The function allocates nothing; on x86-64 a call was measured to need about 40 KB of stack. It keeps nothing from one call to the next, and does no input or output. Threads may call it at the same time, also with
    the same job, as long as each has an out of its own.
 
    The job holds keys, and the function leaves it as it is: whoever laid it out has to clear it. Nothing is promised of the time that a call takes, or of
