@@ -8,7 +8,6 @@ use super::running::run_job;
 pub fn tdea_run(job: &[u8], out: &mut [u8]) -> i64
     ensures answer { result ≡ signed (reported (meaning job.now (length out.old))) }
     ensures output { out.new ≡ output_after (meaning job.now (length out.old)) out.old }
-    ensures unchanged { job.now ≡ job.now }
 {
     match run_job(job, out) {
         Ok(report) => report.bytes as i64,

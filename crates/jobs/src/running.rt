@@ -23,7 +23,6 @@ use runs::cartridge::Cartridge;
 pub fn run_job(job: &[u8], out: &mut [u8]) -> Result<Report, Refusal>
     ensures answer { result ≡ reported (meaning job.now (length out.old)) }
     ensures output { out.new ≡ output_after (meaning job.now (length out.old)) out.old }
-    ensures unchanged { job.now ≡ job.now }
     ensures limit { IfOk result (λ t. t.bytes ≤ data_limit) }
     ensures theorem { Theorem }
     ensures runs { JobsAreRuns }

@@ -11,7 +11,6 @@ use jobs::export;
 pub extern "C" fn tdea_run(job: &[u8], out: &mut [u8]) -> i64
     ensures answer { result ≡ signed (reported (meaning job.now (length out.old))) }
     ensures output { out.new ≡ output_after (meaning job.now (length out.old)) out.old }
-    ensures unchanged { job.now ≡ job.now }
 {
     export::tdea_run(job, out)
 }

@@ -1,4 +1,4 @@
-use Rattle.std.proofs.Common.{◌≡◌, pos, ◌-ℤ◌, neg_ℤ, refl, ap, ◌∙◌, arith, w64, to_z, of_z}
+use Rattle.std.proofs.Common.{◌≡◌, pos, ◌-ℤ◌, neg_ℤ, ap, ◌∙◌, arith, w64, to_z, of_z}
 use Rattle.std.proofs.lemmas.Int.{ints, to_z_pos}
 use Rattle.jobs.specs.Meaning.{signed}
 use Rattle.jobs.proofs.export.tdea_run.Goals as goal
@@ -9,7 +9,6 @@ returns-in-Ok c =
     record {
       answer = to_z_pos w64 c.in-Ok.report.bytes (omega (arith, run.limit)) ∙ ap signed run.answer;
       output = run.output;
-      unchanged = refl;
     }
 
 pub returns-in-Err : goal.returns-in-Err
@@ -19,5 +18,4 @@ returns-in-Err c =
     record {
       answer = minus ∙ ap (λ n. neg_ℤ (pos n)) c.number.ensures ∙ ap signed run.answer;
       output = run.output;
-      unchanged = refl;
     }

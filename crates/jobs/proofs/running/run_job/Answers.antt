@@ -1,4 +1,4 @@
-use Rattle.std.proofs.Common.{length, refl}
+use Rattle.std.proofs.Common.{length}
 use Rattle.std.proofs.lemmas.Result.{err_from_is_err_and}
 use Rattle.calls.proofs.Whole.{theorem}
 use Rattle.job_format.specs.Fields.{parts_in}
@@ -12,14 +12,14 @@ pub returns-in_err-fields : goal.returns-in_err-fields
 returns-in_err-fields c =
     let p = err_from_is_err_and c.from_residual.result c.from_residual.ensures.1 in
     let t = fields_refused c.args.job.now c.args.out.now _ c.in_err-fields.ensures.value in
-    rw (p.1, p.2) (record { answer = t.0; output = t.1; unchanged = refl; limit = tt; theorem = theorem; runs = jobs_are_runs; restoring = jobs_restore })
+    rw (p.1, p.2) (record { answer = t.0; output = t.1; limit = tt; theorem = theorem; runs = jobs_are_runs; restoring = jobs_restore })
 
 pub returns-in_err-task : goal.returns-in_err-task
 returns-in_err-task c =
     let p = err_from_is_err_and c.from_residual-in_err-task.result c.from_residual-in_err-task.ensures.1 in
     let fields = c.in_ok-fields.fields in
     let t = task_refused c.args.job.now c.args.out.now (parts_in fields) c.in_ok-fields.ensures.value _ c.in_err-task.ensures.value in
-    rw (p.1, p.2) (record { answer = t.0; output = t.1; unchanged = refl; limit = tt; theorem = theorem; runs = jobs_are_runs; restoring = jobs_restore })
+    rw (p.1, p.2) (record { answer = t.0; output = t.1; limit = tt; theorem = theorem; runs = jobs_are_runs; restoring = jobs_restore })
 
 pub returns : goal.returns
 returns c =
@@ -28,4 +28,4 @@ returns c =
     let asked = task_asked task fields.«data».now in
     let t = task_done c.args.job.now c.args.out.now (parts_in fields) c.in_ok-fields.ensures.value asked
     c.run.new.out c.run.result c.in_ok-task.ensures.value c.run.ensures.answer c.run.ensures.output in
-    record { answer = t.0; output = t.1; unchanged = refl; limit = limited asked (length c.args.out.now) c.run.result c.in_ok-task.ensures.ready c.run.ensures.answer; theorem = theorem; runs = jobs_are_runs; restoring = jobs_restore }
+    record { answer = t.0; output = t.1; limit = limited asked (length c.args.out.now) c.run.result c.in_ok-task.ensures.ready c.run.ensures.answer; theorem = theorem; runs = jobs_are_runs; restoring = jobs_restore }
