@@ -13,6 +13,5 @@ loop-number-preserved c =
     let third = c.args.third.now in
     let k : ℕ = c.args.times - (i + 1) in
     let more : suc k ≡ c.args.times - i = omega arith in
-    let here : c.forward-all.result ≡ forward_of third (inverse_of second (forward_of first i)) =
-    c.forward-all.ensures ∙ ap (forward_of third) (c.inverse.ensures ∙ ap (inverse_of second) c.forward.ensures) in
+    let here : c.forward-all.result ≡ forward_of third (inverse_of second (forward_of first i)) = cc in
     ap (λ (x : ℕ). called k (i + 1) first second third (bit_xor all x)) here ∙ ap (λ (n : ℕ). called n i first second third all) more ∙ c.loop-number.invariant
