@@ -5,6 +5,7 @@
 ghost use Rattle.std.specs.Prelude.{◌≡◌};
 ghost use Rattle.refusals.specs.Refusals.{number_of, detail_of};
 
+use std::error::Error;
 use std::fmt;
 
 #[derive(Clone, Copy, PartialEq, Eq, Debug)]
@@ -70,21 +71,21 @@ impl Refusal {
         ensures { result ≡ detail_of self }
     {
         match self {
-            Refusal::KeyLength(length) => length as u64,
-            Refusal::KeyParity(index) => index as u64,
             Refusal::SameKeys => 0,
-            Refusal::UnknownCode(code) => u64::from(code),
-            Refusal::InitialValueLength(length) => length as u64,
-            Refusal::OutputLength(length) => length as u64,
-            Refusal::UnitWidth(index) => index as u64,
-            Refusal::UnitLimit(left) => left as u64,
-            Refusal::FieldTruncated(offset) => offset as u64,
-            Refusal::FieldTag(offset) => offset as u64,
-            Refusal::TrailingBytes(offset) => offset as u64,
-            Refusal::FieldLength(tag) => u64::from(tag),
-            Refusal::UnknownDirection(direction) => u64::from(direction),
-            Refusal::DataLength(length) => length as u64,
-            Refusal::PartialUnit(length) => length as u64,
+            Refusal::UnknownCode(byte)
+            | Refusal::FieldLength(byte)
+            | Refusal::UnknownDirection(byte) => u64::from(byte),
+            Refusal::KeyLength(number)
+            | Refusal::KeyParity(number)
+            | Refusal::InitialValueLength(number)
+            | Refusal::OutputLength(number)
+            | Refusal::UnitWidth(number)
+            | Refusal::UnitLimit(number)
+            | Refusal::FieldTruncated(number)
+            | Refusal::FieldTag(number)
+            | Refusal::TrailingBytes(number)
+            | Refusal::DataLength(number)
+            | Refusal::PartialUnit(number) => number as u64,
         }
     }
 }
@@ -122,3 +123,5 @@ impl fmt::Display for Refusal {
         }
     }
 }
+
+impl Error for Refusal {}
