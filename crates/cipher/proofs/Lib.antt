@@ -1,4 +1,5 @@
 pub mod Tests
+pub mod Arrays
 pub mod Filled
 pub mod Boxes
 pub mod Rotations

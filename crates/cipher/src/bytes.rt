@@ -8,18 +8,6 @@ use super::Block;
 pub fn block_at(bytes: &[u8], at: usize) -> Option<Block>
     ensures { result ≡ (if nat_le (at + 8) (length bytes.now) then Some (block_at bytes.now at) else None) }
 {
-    if bytes.len() < 8 || bytes.len() - 8 < at {
-        return None;
-    }
-    let word = [
-        bytes[at],
-        bytes[at + 1],
-        bytes[at + 2],
-        bytes[at + 3],
-        bytes[at + 4],
-        bytes[at + 5],
-        bytes[at + 6],
-        bytes[at + 7],
-    ];
-    Some(u64::from_be_bytes(word))
+    let word = bytes.get(at..)?.first_chunk::<8>()?;
+    Some(u64::from_be_bytes(*word))
 }

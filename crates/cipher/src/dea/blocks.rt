@@ -33,18 +33,12 @@ impl Cipher for Dea {
     ghost undo = { λ d. under_undo d.round_keys };
 
     fn forward(&self, block: Block) -> Block {
-        let mut halves = enter(block);
-        for key in &self.round_keys {
-            halves = self.round(*key, halves);
-        }
-        leave(halves)
+        let keys = self.round_keys.iter();
+        leave(keys.fold(enter(block), |halves, key| self.round(*key, halves)))
     }
 
     fn inverse(&self, block: Block) -> Block {
-        let mut halves = enter(block);
-        for i in (0..16).rev() {
-            halves = self.round(self.round_keys[i], halves);
-        }
-        leave(halves)
+        let keys = self.round_keys.iter().rev();
+        leave(keys.fold(enter(block), |halves, key| self.round(*key, halves)))
     }
 }

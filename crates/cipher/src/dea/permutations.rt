@@ -4,24 +4,27 @@ ghost use Rattle.cipher.specs.Rounds.{ip, ip_inverse, halves as halves_of, cross
 
 use super::words::exchange;
 
+/// The exchanges that make the initial permutation, each as its distance and mask.
+const EXCHANGES: [(u32, u64); 5] = [
+    (36, 0x0f0f_0f0f),
+    (48, 0xffff),
+    (30, 0xcccc_cccc),
+    (24, 0xff00_ff00),
+    (33, 0x5555_5555),
+];
+
 fn permute(block: u64) -> u64
     ensures { result ≡ ip block }
 {
-    let x = exchange(block, 36, 0x0f0f_0f0f);
-    let x = exchange(x, 48, 0xffff);
-    let x = exchange(x, 30, 0xcccc_cccc);
-    let x = exchange(x, 24, 0xff00_ff00);
-    exchange(x, 33, 0x5555_5555)
+    let exchanges = EXCHANGES.iter();
+    exchanges.fold(block, |x, (distance, mask)| exchange(x, *distance, *mask))
 }
 
 fn permute_back(block: u64) -> u64
     ensures { result ≡ ip_inverse block }
 {
-    let x = exchange(block, 33, 0x5555_5555);
-    let x = exchange(x, 24, 0xff00_ff00);
-    let x = exchange(x, 30, 0xcccc_cccc);
-    let x = exchange(x, 48, 0xffff);
-    exchange(x, 36, 0x0f0f_0f0f)
+    let exchanges = EXCHANGES.iter().rev();
+    exchanges.fold(block, |x, (distance, mask)| exchange(x, *distance, *mask))
 }
 
 /// The halves (L, R) that the first round takes.

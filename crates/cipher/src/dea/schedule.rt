@@ -1,54 +1,69 @@
 //! The key schedule.
-ghost use Rattle.std.specs.Prelude.{◌≡◌, ◌^◌, ◌<◌, ◌≤◌};
+ghost use Rattle.std.specs.Prelude.{◌≡◌, ◌≤◌};
 ghost use Rattle.cipher.specs.KeySchedule.{pc1, rotated, step as stepped, pc2, round_keys_of};
 
 use super::tables::{PC1, PC2, ROTATIONS};
 use super::words::select;
+use std::marker::Model;
 
-/// The halves (C, D) of a key.
-fn first_halves(key: u64) -> (u32, u32)
-    ensures value { result ≡ pc1 key }
-    ensures small { (result.0 < 2 ^ 28) × (result.1 < 2 ^ 28) }
-{
-    let x = select(64, &PC1, key);
-    ((x >> 28) as u32, (x & 0xfff_ffff) as u32)
+/// C or D: 28 bits of a key.
+#[derive(Clone, Copy, Drop)]
+struct Half(u32);
+
+impl Model for Half {
+    ghost use Rattle.std.specs.Prelude.{ℕ, ◌^◌, ◌<◌};
+
+    ghost Value = { ℕ };
+
+    ghost view = { λ half. half.0 };
+
+    ghost invariant = { λ half. half.0 < 2 ^ 28 };
+
+    ghost inverse = { λ value. record { 0 = value } };
 }
 
-fn rotate(places: u32, half: u32) -> u32
-    requires places { (1 ≤ places) × (places ≤ 2) }
-    requires small { half < 2 ^ 28 }
-    ensures value { result ≡ rotated places half }
-    ensures small { result < 2 ^ 28 }
+impl Half {
+    fn rotate(self, places: u32) -> Half
+        requires { (1 ≤ places) × (places ≤ 2) }
+        ensures { result ≡ rotated places self }
+    {
+        Half(((self.0 << places) & 0xfff_ffff) | (self.0 >> (28 - places)))
+    }
+}
+
+/// The halves (C, D) of a key.
+fn first_halves(key: u64) -> (Half, Half)
+    ensures { result ≡ pc1 key }
 {
-    ((half << places) & 0xfff_ffff) | (half >> (28 - places))
+    let x = select(64, &PC1, key);
+    (Half((x >> 28) as u32), Half((x & 0xfff_ffff) as u32))
 }
 
 /// One step, from the halves (C, D) to the next.
-fn step(places: u32, halves: (u32, u32)) -> (u32, u32)
-    requires places { (1 ≤ places) × (places ≤ 2) }
-    requires small { (halves.0 < 2 ^ 28) × (halves.1 < 2 ^ 28) }
-    ensures value { result ≡ stepped places halves }
-    ensures small { (result.0 < 2 ^ 28) × (result.1 < 2 ^ 28) }
+fn step(places: u32, halves: (Half, Half)) -> (Half, Half)
+    requires { (1 ≤ places) × (places ≤ 2) }
+    ensures { result ≡ stepped places halves }
 {
-    (rotate(places, halves.0), rotate(places, halves.1))
+    (halves.0.rotate(places), halves.1.rotate(places))
 }
 
 /// The round key of the halves (C, D).
-fn round_key(halves: (u32, u32)) -> u64
-    requires { halves.1 < 2 ^ 28 }
+fn round_key(halves: (Half, Half)) -> u64
     ensures { result ≡ pc2 halves }
 {
-    select(56, &PC2, (halves.0 as u64) << 28 | halves.1 as u64)
+    select(56, &PC2, (halves.0.0 as u64) << 28 | halves.1.0 as u64)
 }
 
 pub(super) fn schedule(key: u64) -> [u64; 16]
     ensures { result ≡ round_keys_of key }
 {
     let mut halves = first_halves(key);
-    let mut keys = [0u64; 16];
-    for i in 0..16 {
-        halves = step(ROTATIONS[i] as u32, halves);
-        keys[i] = round_key(halves);
-    }
-    keys
+    ROTATIONS.map(
+        |places|
+            requires { (1 ≤ places) × (places ≤ 2) }
+        {
+            halves = step(u32::from(places), halves);
+            round_key(halves)
+        },
+    )
 }

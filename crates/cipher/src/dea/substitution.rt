@@ -5,6 +5,7 @@ ghost use Rattle.cipher.specs.Combined.{permuted_answer, combined};
 
 use super::tables::{P, S_BOXES};
 use super::words::select;
+use std::array;
 
 /// What box `number`, from 0, makes of six bits.
 fn substitute(number: usize, six: usize) -> u8
@@ -13,27 +14,28 @@ fn substitute(number: usize, six: usize) -> u8
     ensures value { result ≡ s_box number six }
     ensures four { result < 16 }
 {
-    S_BOXES[number * 64 + (six / 32 * 2 + six % 2) * 16 + six / 2 % 16]
+    S_BOXES[number * 4 + six / 32 * 2 + six % 2][six / 2 % 16]
 }
 
-/// Every answer of every box, sixteen to a box, in its place among the 32 bits and permuted.
+/// Four bits of box `number` in their place among the 32, permuted.
+fn permute_answer(number: usize, four: usize) -> u32
+    requires number { number < 8 }
+    requires four { four < 16 }
+    ensures { result ≡ permuted_answer number four }
+{
+    select(32, &P, (four as u64) << (28 - 4 * number)) as u32
+}
+
+/// Every answer of every box, sixteen to a box.
 fn permuted_answers() -> [u32; 128]
     ensures { (n : ℕ) → n < 128 → slice_index result n ≡ permuted_answer (n / 16) (n % 16) }
 {
-    let mut answers = [0u32; 128];
-    for n in 0..128 {
-        answers[n] = select(32, &P, (n as u64 % 16) << (28 - 4 * (n as u32 / 16))) as u32;
-    }
-    answers
+    array::from_fn(|n| permute_answer(n / 16, n % 16))
 }
 
 pub(super) fn combine() -> [u32; 512]
     ensures { result ≡ combined }
 {
     let answers = permuted_answers();
-    let mut table = [0u32; 512];
-    for n in 0..512 {
-        table[n] = answers[n / 64 * 16 + substitute(n / 64, n % 64) as usize];
-    }
-    table
+    array::from_fn(|n| answers[n / 64 * 16 + substitute(n / 64, n % 64) as usize])
 }

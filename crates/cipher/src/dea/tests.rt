@@ -27,11 +27,9 @@ fn rounds_of_the_worked_example(rt: HostRuntime) {
     let dea = Dea::new(0x133457799BBCDFF1);
     let mut halves = enter(0x0123456789ABCDEF);
     assert_eq!(rt; halves, (0xCC00CCFF, 0xF0AAF0AA));
-    for i in 0..16 {
-        let (key, left, right) = ROUNDS[i];
-        let round_key = dea.round_keys[i];
-        assert_eq!(rt; round_key, key);
-        halves = dea.round(key, halves);
-        assert_eq!(rt; halves, (left, right));
+    for (round_key, (key, left, right)) in dea.round_keys.iter().zip(&ROUNDS) {
+        assert_eq!(rt; *round_key, *key);
+        halves = dea.round(*key, halves);
+        assert_eq!(rt; halves, (*left, *right));
     }
 }
