@@ -2,7 +2,7 @@
 use Rattle.std.proofs.Common.{◌≡◌, ℕ, zero, suc, ◌+◌, ◌<◌, ◌≤◌, Bool, true, Some, List, [], ◌∷◌, length, get_or, drop, sym, subst, ap, ap₂, ◌∙◌, inl, inr, eq-or-lt_of_le, arith}
 use denote.Param.Members.{Mut, Called}
 use Rattle.std.specs.Array.{IsFromFnResult, IsFromFnResultFrom, IsMapOf, MapsFrom, list_steps}
-use Rattle.std.specs.Iterator.{Yields}
+use Rattle.std.specs.Iterator.{Yields, CallableAtEachTurn}
 use Rattle.std.proofs.lemmas.List.{drop_more, drop_all}
 use Rattle.std.proofs.lemmas.Bool.{and_parts}
 use Rattle.cipher.specs.KeySchedule.{step, pc2, round_keys_from}
@@ -43,9 +43,13 @@ module _ {F : Type 0} (g : Mut F (ℕ × Unit {0}) ℕ) (halves : F → ℕ × �
   pub stepped_by : (ss keys : List ℕ) (n : ℕ) (f : F) → n ≡ length ss → IsMapOf g f ss keys n → keys ≡ round_keys_from ss (halves f)
   stepped_by ss keys n f all mapped = each_step ss keys 0 n f (omega arith) (mapped.long ∙ all) mapped.each
 
--- an item that comes from a list passes the test that all of it pass
-pub item_passes : (test : ℕ → Bool) (s xs t u : List ℕ) (x : ℕ) → all_of test s ≡ true → Yields list_steps s xs t → list_steps t (Some x) u → test x ≡ true
+item_passes : (test : ℕ → Bool) (s xs t u : List ℕ) (x : ℕ) → all_of test s ≡ true → Yields list_steps s xs t → list_steps t (Some x) u → test x ≡ true
 item_passes test s [] t u x passes same item =
     (and_parts (test x) (all_of test u) (ap (all_of test) (sym (same ∙ item)) ∙ passes)).0
 item_passes test s (y ∷ ys) t u x passes (j, first, more) item =
     item_passes test j ys t u x (and_parts (test y) (all_of test j) (ap (all_of test) (sym first) ∙ passes)).1 more item
+
+-- what may be asked of any number that passes a test may be asked of each item of a list that passes it
+pub serves_each : {P : Type 0} {R : P → ℕ → P → Type 0} {Q : P → ℕ → Type 0} {p : P} (test : ℕ → Bool) (s : List ℕ) → all_of test s ≡ true
+    → ((q : P) (x : ℕ) → test x ≡ true → Q q x) → CallableAtEachTurn list_steps R Q s p
+serves_each test s passes serves = record { at = λ xs t q x u yields folds item. serves q x (item_passes test s xs t u x passes yields item) }

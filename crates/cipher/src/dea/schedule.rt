@@ -24,7 +24,7 @@ impl Model for Half {
 
 impl Half {
     fn rotate(self, places: u32) -> Half
-        requires { (1 ≤ places) × (places ≤ 2) }
+        requires { places ≤ 2 }
         ensures { result ≡ rotated places self }
     {
         Half(((self.0 << places) & 0xfff_ffff) | (self.0 >> (28 - places)))
@@ -41,7 +41,7 @@ fn first_halves(key: u64) -> (Half, Half)
 
 /// One step, from the halves (C, D) to the next.
 fn step(places: u32, halves: (Half, Half)) -> (Half, Half)
-    requires { (1 ≤ places) × (places ≤ 2) }
+    requires { places ≤ 2 }
     ensures { result ≡ stepped places halves }
 {
     (halves.0.rotate(places), halves.1.rotate(places))
@@ -58,12 +58,8 @@ pub(super) fn schedule(key: u64) -> [u64; 16]
     ensures { result ≡ round_keys_of key }
 {
     let mut halves = first_halves(key);
-    ROTATIONS.map(
-        |places|
-            requires { (1 ≤ places) × (places ≤ 2) }
-        {
-            halves = step(u32::from(places), halves);
-            round_key(halves)
-        },
-    )
+    ROTATIONS.map(|places| requires { places ≤ 2 } {
+        halves = step(places, halves);
+        round_key(halves)
+    })
 }
