@@ -10,6 +10,7 @@ use crate::{KeyBundle, SingleKey};
 use cipher::bytes::block_at;
 use refusals::Refusal;
 
+// The two loads differ in what reads the bytes; a generic function over that has more lines of clauses than it saves.
 impl SingleKey {
     /// Loads one key from its eight bytes.
     pub fn load(key: &mut [u8]) -> Result<SingleKey, Refusal>
@@ -39,10 +40,7 @@ fn check(bytes: &[u8], wanted: usize) -> Result<(), Refusal>
     if bytes.len() != wanted {
         return Err(Refusal::KeyLength(bytes.len()));
     }
-    match first_even_byte(bytes) {
-        Some(index) => Err(Refusal::KeyParity(index)),
-        None => Ok(()),
-    }
+    first_even_byte(bytes).map_or(Ok(()), |index| Err(Refusal::KeyParity(index)))
 }
 
 /// The key whose eight bytes stand from `at` on.

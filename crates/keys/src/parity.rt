@@ -6,10 +6,5 @@ ghost use Rattle.keys.specs.Parity.{first_even};
 pub(crate) fn first_even_byte(bytes: &[u8]) -> Option<usize>
     ensures { result ≡ first_even 0 bytes.now }
 {
-    for (i, byte) in bytes.iter().enumerate() {
-        if byte.count_ones() % 2 == 0 {
-            return Some(i);
-        }
-    }
-    None
+    bytes.iter().position(|byte| byte.count_ones() % 2 == 0)
 }

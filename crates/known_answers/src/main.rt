@@ -7,7 +7,7 @@ use cipher::Cipher;
 use cipher::dea::Dea;
 use std::io;
 
-/// One stage of the triple example: what goes in and what comes out.
+/// The three keys of the triple example.
 const TRIPLE_KEYS: [u64; 3] = [0x0123456789ABCDEF, 0x23456789ABCDEF01, 0x456789ABCDEF0123];
 
 /// Each block of the triple example before, between and after its three stages.
@@ -32,27 +32,20 @@ const TRIPLE_STAGES: [[u64; 4]; 3] = [
     ],
 ];
 
-/// How many of the answers come out right both ways.
-fn right_answers(answers: &[(u64, u64, u64)]) -> u64 {
-    let mut right: u64 = 0;
-    for (key, plain, ciphered) in answers {
-        let dea = Dea::new(*key);
-        if dea.forward(*plain) == *ciphered && dea.inverse(*ciphered) == *plain {
-            right = right.saturating_add(1);
-        }
-    }
-    right
+/// Whether the answer comes out right both ways.
+fn is_right((key, plain, ciphered): &(u64, u64, u64)) -> bool {
+    let dea = Dea::new(*key);
+    dea.forward(*plain) == *ciphered && dea.inverse(*ciphered) == *plain
 }
 
 fn report(rt: &HostRuntime, name: &str, answers: &[(u64, u64, u64)]) -> io::Result<()> {
-    let right = right_answers(answers);
+    let right = answers.iter().filter(|answer| is_right(answer)).count();
     let all = answers.len();
     println!(rt; "{name}: {right} of {all} right")
 }
 
 fn triple_example(rt: &HostRuntime) -> io::Result<()> {
-    let [first, second, third] = TRIPLE_KEYS;
-    let (first, second, third) = (Dea::new(first), Dea::new(second), Dea::new(third));
+    let [first, second, third] = TRIPLE_KEYS.map(Dea::new);
     for stages in &TRIPLE_STAGES {
         let [plain, _, _, ciphered] = *stages;
         let a = first.forward(plain);
