@@ -1,5 +1,5 @@
 //! What an engine means. Whatever shows this is an engine, and nothing more is known of one.
-ghost use Rattle.std.specs.Prelude.{◌≡◌, ◌+◌, ◌≤◌, length};
+ghost use Rattle.std.specs.Prelude.{◌≡◌, ℕ, ◌+◌, ◌≤◌, length};
 ghost use Rattle.cipher.specs.Undoing.{Undo};
 ghost use Rattle.engines.specs.Machines.{Machine, answered, turned};
 ghost use Rattle.engines.specs.Depths.{the_greatest_depth};
@@ -23,9 +23,12 @@ pub trait Engine: Sized {
     /// In how many cycles a block passes through, the one that it enters in included.
     const DEPTH: usize;
 
+    // The constant as clauses see it.
+    ghost DEPTH: { ℕ };
+
     ghost machine: { Self → Machine };
 
-    /// The depth, tied to the meaning. Code over any engine asks here, since no proof can speak of the constant.
+    /// The same depth.
     fn depth_of(&self) -> usize
         ensures { result ≡ (machine self.now).depth };
 
@@ -35,6 +38,8 @@ pub trait Engine: Sized {
         ensures after { machine self.new ≡ turned (machine self.old) input };
 
     ghost undo: { (e : Self) → Undo (machine e).forward (machine e).inverse };
+
+    ghost deep: { (e : Self) → (machine e).depth ≡ DEPTH };
 
     ghost places: { (e : Self) → length (machine e).row + 1 ≡ (machine e).depth };
 

@@ -32,17 +32,20 @@ impl<E> Counted<E> {
 impl<E: Engine> Engine for Counted<E> {
     const DEPTH: usize = E::DEPTH;
 
+    ghost DEPTH = { E.DEPTH };
+
     ghost machine = { λ e. E.Engine.machine e.inner };
 
     ghost undo = { Prim.search rules };
+
+    ghost deep = { Prim.search rules };
 
     ghost places = { Prim.search rules };
 
     ghost shallow = { Prim.search rules };
 
-    // The constant of the inner engine says nothing to a proof; the inner engine itself does.
     fn depth_of(&self) -> usize {
-        self.inner.depth_of()
+        Self::DEPTH
     }
 
     fn clock(&mut self, input: Option<Work>) -> Option<Block>
