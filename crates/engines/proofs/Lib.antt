@@ -1,3 +1,1 @@
-pub mod Three
-pub mod Stages
 pub mod ManyCycles

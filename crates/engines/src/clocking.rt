@@ -7,15 +7,6 @@ use super::engine::{Engine, GREATEST_DEPTH};
 use super::work::Work;
 use cipher::Block;
 
-// Writes an answer in its place, if there is one.
-fn write_down(answers: &mut [Option<Block>], cycle: usize, answer: Option<Block>)
-    ensures { answers.new ≡ slice_set answers.old cycle answer }
-{
-    if cycle < answers.len() {
-        answers[cycle] = answer;
-    }
-}
-
 /// Clocks an engine once for each input, and writes down the answer of each cycle. Answers past the end of the list are lost.
 pub fn clock_each<E: Engine>(engine: &mut E, inputs: &[Option<Work>], answers: &mut [Option<Block>])
     ensures written { answers.new ≡ written_over (take (length inputs.now) (due (E.Engine.machine engine.old) inputs.now)) answers.old }
@@ -24,22 +15,12 @@ pub fn clock_each<E: Engine>(engine: &mut E, inputs: &[Option<Work>], answers: &
 {
     for (cycle, input) in inputs.iter().enumerate() {
         let answer = engine.clock(*input);
-        write_down(answers, cycle, answer);
+        // By index: once the loan of get_mut, or of an iterator over the answers, is over, std says nothing of what stands
+        // in the list, and both were tried.
+        if cycle < answers.len() {
+            answers[cycle] = answer;
+        }
     }
-}
-
-// How many places an engine's row has.
-fn places_of<E: Engine>(engine: &E) -> usize
-    ensures { result ≡ length (E.Engine.machine engine.now).row }
-{
-    engine.depth_of() - 1
-}
-
-// Empty inputs, enough for the row of any engine.
-fn empty_inputs() -> [Option<Work>; GREATEST_DEPTH]
-    ensures { result ≡ replicate the_greatest_depth None }
-{
-    [None; GREATEST_DEPTH]
 }
 
 /// Clocks an engine empty: one empty cycle for each place of its row, which come out in order.
@@ -47,9 +28,8 @@ pub fn flush<E: Engine>(engine: &mut E, answers: &mut [Option<Block>])
     ensures written { answers.new ≡ written_over (E.Engine.machine engine.old).row answers.old }
     ensures after { E.Engine.machine engine.new ≡ emptied (E.Engine.machine engine.old) }
 {
-    let nothing = empty_inputs();
-    let places = places_of(engine);
-    clock_each(engine, &nothing[0..places], answers);
+    let nothing = [None; GREATEST_DEPTH];
+    clock_each(engine, &nothing[..E::DEPTH - 1], answers);
 }
 
 /// Clocks an engine empty, and throws away what comes out.

@@ -10,13 +10,6 @@ use cipher::Block;
 /// No engine is deeper.
 pub const GREATEST_DEPTH: usize = 8;
 
-/// The greatest depth of an engine, as proofs know it.
-pub fn greatest_depth() -> usize
-    ensures { result ≡ the_greatest_depth }
-{
-    GREATEST_DEPTH
-}
-
 /// An engine works blocks in cycles. It means two functions on blocks that undo each other, and a row of places, one fewer
 /// than its depth, each empty or holding a block due. It never refuses, and its functions and depth never change.
 pub trait Engine: Sized {

@@ -1,5 +1,5 @@
 //! The line: three functional blocks that work three blocks at once.
-ghost use Rattle.std.specs.Prelude.{◌≡◌, [], ◌∷◌, length};
+ghost use Rattle.std.specs.Prelude.{◌≡◌, [], ◌∷◌};
 ghost use Rattle.cipher.specs.Triples.{in_row};
 ghost use Rattle.engines.specs.declared.table.BlockState.TheVariants.{Idle};
 ghost use Rattle.engines.specs.Machines.{answered, resting, turned};
@@ -44,6 +44,8 @@ impl<A: Cipher, B: Cipher, C: Cipher> Line<A, B, C> {
     }
 
     // The work of a functional block. The inverse goes through the ciphers the other way round.
+    // A table of functions would be no plainer: the ciphers are of three types, so that each entry would be a boxed closure, and
+    // there is no heap.
     fn worked(&self, stage: Stage, work: Work) -> Block
         ensures { result ≡ stage_function A.Cipher B.Cipher C.Cipher self.now stage work.direction work.block }
     {
@@ -61,15 +63,11 @@ impl<A: Cipher, B: Cipher, C: Cipher> Line<A, B, C> {
     fn turn(&mut self, stage: Stage, event: Option<Work>) -> Option<Work>
         ensures handed { result ≡ held (state self.old.table.blocks stage) }
         ensures after { self.new ≡ turned_at A.Cipher B.Cipher C.Cipher self.old stage event }
-        ensures three { length self.new.table.blocks ≡ 3 }
     {
-        let taken = match event {
-            None => None,
-            Some(work) => Some(Work {
-                block: self.worked(stage, work),
-                direction: work.direction,
-            }),
-        };
+        let taken = event.map(|work| Work {
+            block: self.worked(stage, work),
+            direction: work.direction,
+        });
         self.table.turn(stage, taken)
     }
 

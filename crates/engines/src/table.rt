@@ -1,5 +1,5 @@
 //! The functional blocks of a line, in one table.
-ghost use Rattle.std.specs.Prelude.{◌≡◌, [], ◌∷◌, length, slice_set};
+ghost use Rattle.std.specs.Prelude.{◌≡◌, ◌<◌, [], ◌∷◌, slice_set};
 ghost use Rattle.engines.specs.declared.table.BlockState.TheVariants.{Idle};
 ghost use Rattle.engines.specs.Tables.{block_in, held, holding, place, state};
 
@@ -7,15 +7,27 @@ use super::work::Work;
 use cipher::Block;
 
 /// One of the three functional blocks.
-#[derive(Clone, Copy)]
+#[derive(Clone, Copy, Debug, PartialEq, Eq)]
 pub enum Stage {
     First,
     Second,
     Third,
 }
 
+impl Stage {
+    // Where it stands in the table.
+    fn place(self) -> usize
+        ensures place { result ≡ place self }
+        ensures within { result < 3 }
+    {
+        self as usize
+    }
+}
+
 /// A functional block is idle or holds one block, as its own work left it, with its direction.
-#[derive(Clone, Copy)]
+// No Option<Work>: a rule of the project fixes this form, a state of its own that is matched together with the cycle's event and
+// changed in place.
+#[derive(Clone, Copy, Debug, PartialEq, Eq)]
 pub enum BlockState {
     Idle,
     Holding(Work),
@@ -75,23 +87,15 @@ impl Table {
     pub(crate) fn state(&self, stage: Stage) -> BlockState
         ensures { result ≡ state self.now.blocks stage }
     {
-        match stage {
-            Stage::First => self.blocks[0],
-            Stage::Second => self.blocks[1],
-            Stage::Third => self.blocks[2],
-        }
+        self.blocks[stage.place()]
     }
 
     // One of them takes its turn, and its neighbours stay as they are.
     pub(crate) fn turn(&mut self, stage: Stage, event: Option<Work>) -> Option<Work>
         ensures handed { result ≡ held (state self.old.blocks stage) }
         ensures after { self.new ≡ record { blocks = slice_set self.old.blocks (place stage) (holding event) } }
-        ensures three { length self.new.blocks ≡ 3 }
     {
-        match stage {
-            Stage::First => self.blocks[0].turn(event),
-            Stage::Second => self.blocks[1].turn(event),
-            Stage::Third => self.blocks[2].turn(event),
-        }
+        let block = &mut self.blocks[stage.place()];
+        block.turn(event)
     }
 }
