@@ -21,10 +21,6 @@ pub trait Engine: Sized {
 
     ghost machine: { Self → Machine };
 
-    /// The same depth.
-    fn depth_of(&self) -> usize
-        ensures { result ≡ (machine self.now).depth };
-
     /// One cycle: takes nothing or one block with its direction, and answers what stands at the front.
     fn clock(&mut self, input: Option<Work>) -> Option<Block>
         ensures answer { result ≡ answered (machine self.old) input }

@@ -96,10 +96,6 @@ impl<A: Cipher, B: Cipher, C: Cipher> Engine for Line<A, B, C> {
 
     ghost shallow = { Prim.search rules };
 
-    fn depth_of(&self) -> usize {
-        Self::DEPTH
-    }
-
     /// Besides what any engine promises: each functional block holds its own work on what the one before it held.
     fn clock(&mut self, input: Option<Work>) -> Option<Block>
         ensures answer { result ≡ answered (line_machine A.Cipher B.Cipher C.Cipher self.old) input }

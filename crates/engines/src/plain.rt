@@ -37,10 +37,6 @@ impl<C: Cipher> Engine for Plain<C> {
 
     ghost shallow = { Prim.search rules };
 
-    fn depth_of(&self) -> usize {
-        Self::DEPTH
-    }
-
     fn clock(&mut self, input: Option<Work>) -> Option<Block> {
         let work = input?;
         Some(match work.direction {

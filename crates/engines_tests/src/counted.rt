@@ -44,10 +44,6 @@ impl<E: Engine> Engine for Counted<E> {
 
     ghost shallow = { Prim.search rules };
 
-    fn depth_of(&self) -> usize {
-        Self::DEPTH
-    }
-
     fn clock(&mut self, input: Option<Work>) -> Option<Block>
         ensures answer { result ≡ answered (E.Engine.machine self.old.inner) input }
         ensures after { E.Engine.machine self.new.inner ≡ turned (E.Engine.machine self.old.inner) input }
