@@ -29,7 +29,8 @@ pub fn flush<E: Engine>(engine: &mut E, answers: &mut [Option<Block>])
     ensures after { E.Engine.machine engine.new ≡ emptied (E.Engine.machine engine.old) }
 {
     let nothing = [None; GREATEST_DEPTH];
-    clock_each(engine, &nothing[..E::DEPTH - 1], answers);
+    let places = &nothing[..E::DEPTH - 1];
+    clock_each(engine, places, answers);
 }
 
 /// Clocks an engine empty, and throws away what comes out.

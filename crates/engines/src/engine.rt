@@ -7,7 +7,7 @@ ghost use Rattle.engines.specs.Depths.{the_greatest_depth};
 use super::work::Work;
 use cipher::Block;
 
-/// No engine is deeper.
+/// No engine is deeper. A theorem in the specs ties it to the number that proofs know.
 pub const GREATEST_DEPTH: usize = 8;
 
 /// An engine works blocks in cycles. It means two functions on blocks that undo each other, and a row of places, one fewer
