@@ -42,10 +42,6 @@ impl Numbers {
         } else {
             Direction::Inverse
         };
-        if kind < 5 {
-            None
-        } else {
-            Some(Work { block, direction })
-        }
+        (kind >= 5).then_some(Work { block, direction })
     }
 }

@@ -6,7 +6,9 @@ use engines::clocking::flush;
 use engines::engine::Engine;
 use engines::line::Line;
 use engines::plain::Plain;
-use engines::work::{Direction, Work};
+use engines::table::{BlockState, Stage};
+use engines::work::Direction::{self, Forward, Inverse};
+use engines::work::Work;
 
 const ADDED: Added = Added {
     number: 0x0123_4567_89AB_CDEF,
@@ -16,34 +18,30 @@ const CROSSED: Crossed = Crossed {
     mask: 0xFEDC_BA98_0000_0001,
 };
 
-fn forward(block: Block) -> Option<Work> {
-    Some(Work {
-        block,
-        direction: Direction::Forward,
-    })
-}
-
-fn inverse(block: Block) -> Option<Work> {
-    Some(Work {
-        block,
-        direction: Direction::Inverse,
-    })
+fn given(direction: Direction, block: Block) -> Option<Work> {
+    Some(Work { block, direction })
 }
 
 #[test]
 fn plain_engine_answers_in_the_same_cycle(rt: HostRuntime) {
     let mut engine = Plain::new(ADDED);
-    assert_eq!(rt; engine.clock(forward(1)), Some(0x0123_4567_89AB_CDF0));
+    assert_eq!(rt;
+        engine.clock(given(Forward, 1)),
+        Some(0x0123_4567_89AB_CDF0)
+    );
     assert_eq!(rt; engine.clock(None), None);
-    assert_eq!(rt; engine.clock(inverse(0x0123_4567_89AB_CDF0)), Some(1));
+    assert_eq!(rt;
+        engine.clock(given(Inverse, 0x0123_4567_89AB_CDF0)),
+        Some(1)
+    );
 }
 
 #[test]
 fn line_is_emptied_in_two_cycles(rt: HostRuntime) {
     let triple = Triple::new(Rotated {}, ADDED, CROSSED);
     let mut engine = Counted::new(Line::new(Rotated {}, ADDED, CROSSED));
-    assert_eq!(rt; engine.clock(forward(7)), None);
-    assert_eq!(rt; engine.clock(inverse(9)), None);
+    assert_eq!(rt; engine.clock(given(Forward, 7)), None);
+    assert_eq!(rt; engine.clock(given(Inverse, 9)), None);
     let mut answers = [Some(5); 3];
     flush(&mut engine, &mut answers);
     assert_eq!(rt; answers[0], Some(triple.forward(7)));
@@ -55,9 +53,21 @@ fn line_is_emptied_in_two_cycles(rt: HostRuntime) {
 #[test]
 fn what_finds_no_place_is_lost(rt: HostRuntime) {
     let mut engine = Line::new(Rotated {}, ADDED, CROSSED);
-    assert_eq!(rt; engine.clock(forward(7)), None);
+    assert_eq!(rt; engine.clock(given(Forward, 7)), None);
     let mut answers = [Some(5)];
     flush(&mut engine, &mut answers);
     assert_eq!(rt; answers[0], None);
     assert_eq!(rt; engine.clock(None), None);
+}
+
+#[test]
+fn line_tells_what_stands_in_its_functional_blocks(rt: HostRuntime) {
+    let mut line = Line::new(Rotated {}, ADDED, CROSSED);
+    assert_eq!(rt; line.clock(given(Forward, 7)), None);
+    let worked = Work {
+        block: 0x0700,
+        direction: Forward,
+    };
+    assert_eq!(rt; line.state(Stage::First), BlockState::Holding(worked));
+    assert_eq!(rt; line.state(Stage::Second), BlockState::Idle);
 }

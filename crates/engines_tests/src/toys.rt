@@ -31,11 +31,11 @@ impl Cipher for Rotated {
     ghost undo = { Prim.search rules };
 
     fn forward(&self, block: Block) -> Block {
-        block % 0x0100_0000_0000_0000 * 0x0100 + block / 0x0100_0000_0000_0000
+        block.rotate_left(8)
     }
 
     fn inverse(&self, block: Block) -> Block {
-        block % 0x0100 * 0x0100_0000_0000_0000 + block / 0x0100
+        block.rotate_right(8)
     }
 }
 

@@ -1,0 +1,10 @@
+use Rattle.std.proofs.Common.{◌≡◌, ℕ, ◌*◌, ◌/◌, ◌%◌, ◌^◌, ◌<◌, bit_or, ap, ◌∙◌, arith}
+use Rattle.std.proofs.lemmas.Nat.{or_shifted, or_comm}
+use Rattle.engines_tests.proofs.toys.RotatedCipher.inverse.Goals as goal
+
+pub returns : goal.returns
+returns c =
+    let b = c.args.block in
+    let shifted : b * 2 ^ 56 % 2 ^ 64 ≡ b % 2 ^ 8 * 2 ^ 56 = omega arith in
+    let low : b / 2 ^ 8 < 2 ^ 56 = omega arith in
+    c.rotate_right.ensures ∙ or_comm (b / 2 ^ 8) (b * 2 ^ 56 % 2 ^ 64) ∙ ap (λ (x : ℕ). bit_or x (b / 2 ^ 8)) shifted ∙ or_shifted (b % 2 ^ 8) 56 (b / 2 ^ 8) low
