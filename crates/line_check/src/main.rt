@@ -21,13 +21,5 @@ fn main(rt: HostRuntime) -> io::Result<()> {
     let mut line = Line::new(Rotated {}, added, crossed);
     let mut triple = Plain::new(Triple::new(Rotated {}, added, crossed));
     let tally = compared(&mut line, &mut triple, Numbers::new(1), 1000);
-    let forward = tally.forward;
-    let inverse = tally.inverse;
-    let gaps = tally.gaps;
-    let mixed = tally.mixed;
-    let equal = tally.equal;
-    let wrong = tally.wrong;
-    println!(rt; "blocks in: {forward} forward, {inverse} inverse, {gaps} gaps")?;
-    println!(rt; "cycles with both directions in the line: {mixed}")?;
-    println!(rt; "answers as the triple's: {equal}, others: {wrong}")
+    println!(rt; "{tally}")
 }

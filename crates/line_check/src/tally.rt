@@ -7,9 +7,10 @@ use engines::plain::Plain;
 use engines::table::{BlockState, Stage};
 use engines::work::{Direction, Work};
 use engines_tests::numbers::Numbers;
+use std::fmt;
 
 /// How many there were of each kind. Counts wrap, so that no bound is asked.
-#[derive(Clone, Copy)]
+#[derive(Clone, Copy, Default)]
 pub struct Tally {
     pub forward: u32,
     pub inverse: u32,
@@ -21,21 +22,12 @@ pub struct Tally {
 
 impl Tally {
     fn count_input(&mut self, input: Option<Work>) {
-        match input {
-            None => self.gaps = self.gaps.wrapping_add(1),
-            Some(
-                Work {
-                    direction: Direction::Forward,
-                    ..
-                },
-            ) => self.forward = self.forward.wrapping_add(1),
-            Some(
-                Work {
-                    direction: Direction::Inverse,
-                    ..
-                },
-            ) => self.inverse = self.inverse.wrapping_add(1),
-        }
+        let count = match input.map(|work| work.direction) {
+            None => &mut self.gaps,
+            Some(Direction::Forward) => &mut self.forward,
+            Some(Direction::Inverse) => &mut self.inverse,
+        };
+        *count = count.wrapping_add(1);
     }
 
     fn count_answer(&mut self, answer: Option<Block>, wanted: Option<Block>) {
@@ -55,22 +47,30 @@ impl Tally {
     }
 }
 
+impl fmt::Display for Tally {
+    fn fmt<W: fmt::Write>(&self, f: &mut fmt::Formatter<W>) -> fmt::Result {
+        writeln!(
+            f,
+            "blocks in: {} forward, {} inverse, {} gaps",
+            self.forward, self.inverse, self.gaps
+        )?;
+        writeln!(f, "cycles with both directions in the line: {}", self.mixed)?;
+        write!(
+            f,
+            "answers as the triple's: {}, others: {}",
+            self.equal, self.wrong
+        )
+    }
+}
+
 /// Clocks a new line for so many cycles. Each answer is held to what the triple itself answered two cycles before.
 pub fn compared<A: Cipher, B: Cipher, C: Cipher>(
     line: &mut Line<A, B, C>,
     triple: &mut Plain<Triple<A, B, C>>,
-    numbers: Numbers,
+    mut numbers: Numbers,
     cycles: u32,
 ) -> Tally {
-    let mut numbers = numbers;
-    let mut tally = Tally {
-        forward: 0,
-        inverse: 0,
-        gaps: 0,
-        mixed: 0,
-        equal: 0,
-        wrong: 0,
-    };
+    let mut tally = Tally::default();
     let mut before = None;
     let mut last = None;
     for _ in 0..cycles {
