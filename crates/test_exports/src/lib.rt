@@ -3,27 +3,19 @@
 
 pub mod speeds;
 
-ghost use Rattle.std.specs.Prelude.{◌≡◌, map, length, replicate};
-ghost use Rattle.test_exports.specs.Exports.{either, answered, blocks_after};
+ghost use Rattle.std.specs.Prelude.{◌≡◌, ℕ, map, length, replicate};
+ghost use Rattle.test_exports.specs.Exports.{answered, blocks_after};
 
 use cipher::{Block, Cipher};
 use keys::KeyBundle;
 
-fn apply<C: Cipher>(cipher: &C, inverse: u8, block: Block) -> Block
-    ensures { result ≡ either inverse (C.Cipher.forward cipher.now) (C.Cipher.inverse cipher.now) block }
-{
-    if inverse == 0 {
-        cipher.forward(block)
-    } else {
-        cipher.inverse(block)
-    }
-}
-
-fn apply_all<C: Cipher>(cipher: &C, inverse: u8, blocks: &mut [Block])
-    ensures { blocks.new ≡ map (either inverse (C.Cipher.forward cipher.now) (C.Cipher.inverse cipher.now)) blocks.old }
+// Puts in the place of each block what is made of it.
+fn replace_each<F: Fn(Block) -> Block>(blocks: &mut [Block], made_of: F)
+    requires { F.IsAlwaysCallable made_of }
+    ensures { (G : ℕ → ℕ) → ((block made : ℕ) → F.post made_of block made → made ≡ G block) → blocks.new ≡ map G blocks.old }
 {
     for block in blocks.iter_mut() {
-        *block = apply(cipher, inverse, *block);
+        *block = made_of(*block);
     }
 }
 
@@ -37,7 +29,11 @@ pub extern "C" fn hervodig_blocks(keys: &mut [u8], inverse: u8, blocks: &mut [Bl
     match KeyBundle::load(keys) {
         Ok(bundle) => {
             let triple = bundle.into_cipher();
-            apply_all(&triple, inverse, blocks);
+            if inverse == 0 {
+                replace_each(blocks, |block| triple.forward(block));
+            } else {
+                replace_each(blocks, |block| triple.inverse(block));
+            }
             0
         }
         Err(refusal) => refusal.number(),

@@ -35,20 +35,18 @@ fn call(first: &Dea, second: &Dea, third: &Dea, times: u64) -> Block
     all
 }
 
+// The two calls below share their outer lines. One function that is given what to do with the ciphers would be no plainer: its
+// clause would be longer than those lines.
 /// Clocks a line under the bundle so often, and answers what came out, gathered by exclusive or; 0 where the bundle is refused.
 #[unsafe(no_mangle)]
 pub extern "C" fn hervodig_line(keys: &mut [u8], cycles: u64) -> Block
     ensures value { result ≡ line_gathered keys.old cycles }
     ensures zeroed { keys.new ≡ replicate (length keys.old) 0 }
 {
-    match KeyBundle::load(keys) {
-        Ok(bundle) => {
-            let (first, second, third) = bundle.into_ciphers();
-            let mut line = Line::new(first, second, third);
-            gather(&mut line, cycles)
-        }
-        Err(_) => 0,
-    }
+    KeyBundle::load(keys).map_or(0, |bundle| {
+        let (first, second, third) = bundle.into_ciphers();
+        gather(&mut Line::new(first, second, third), cycles)
+    })
 }
 
 /// Calls three ciphers under the bundle so often, and answers the results likewise.
@@ -57,11 +55,8 @@ pub extern "C" fn hervodig_three_calls(keys: &mut [u8], times: u64) -> Block
     ensures value { result ≡ calls_gathered keys.old times }
     ensures zeroed { keys.new ≡ replicate (length keys.old) 0 }
 {
-    match KeyBundle::load(keys) {
-        Ok(bundle) => {
-            let (first, second, third) = bundle.into_ciphers();
-            call(&first, &second, &third, times)
-        }
-        Err(_) => 0,
-    }
+    KeyBundle::load(keys).map_or(0, |bundle| {
+        let (first, second, third) = bundle.into_ciphers();
+        call(&first, &second, &third, times)
+    })
 }
