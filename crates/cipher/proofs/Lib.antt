@@ -1,6 +1,5 @@
 pub mod Tests
 pub mod Arrays
-pub mod Filled
 pub mod Boxes
 pub mod Rotations
 pub mod Linear

@@ -20,9 +20,9 @@ impl Dea {
     {
         let bits = window(right);
         let mut mixed: u32 = 0;
-        for i in 0..8 {
-            mixed ^= self.substitution[i * 64
-                + (((bits >> (28 - 4 * i)) ^ (key >> (42 - 6 * i))) & 63) as usize];
+        for (i, answers) in self.substitution.chunks_exact(64).enumerate() {
+            let six = ((bits >> (28 - 4 * i)) ^ (key >> (42 - 6 * i))) & 63;
+            mixed ^= answers[six as usize];
         }
         mixed
     }

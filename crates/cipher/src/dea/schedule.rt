@@ -58,8 +58,12 @@ pub(super) fn schedule(key: u64) -> [u64; 16]
     ensures { result ≡ round_keys_of key }
 {
     let mut halves = first_halves(key);
-    ROTATIONS.map(|places| requires { places ≤ 2 } {
-        halves = step(places, halves);
-        round_key(halves)
-    })
+    ROTATIONS.map(
+        |places|
+            requires { places ≤ 2 }
+        {
+            halves = step(u32::from(places), halves);
+            round_key(halves)
+        },
+    )
 }

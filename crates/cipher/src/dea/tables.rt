@@ -78,6 +78,6 @@ pub(super) const PC2: [u8; 48] = [
 
 /// The left rotations before each of the sixteen round keys.
 #[rattlefmt::skip]
-pub(super) const ROTATIONS: [u32; 16] = [
+pub(super) const ROTATIONS: [u8; 16] = [
     1, 1, 2, 2, 2, 2, 2, 2, 1, 2, 2, 2, 2, 2, 2, 1,
 ];
