@@ -1,5 +1,8 @@
 -- The table of the modes. What a row does not hold follows from its family, width and number of initial values.
-use Rattle.std.specs.Prelude.{◌≡◌, ℕ, ◌+◌, ◌-◌, ◌/◌, cond, List, [], ◌∷◌, Some, None, codes, Option, ◌==◌}
+use Rattle.std.specs.Prelude.{◌≡◌, ℕ, ◌+◌, ◌-◌, ◌/◌, cond, List, [], ◌∷◌, Some, None, codes, Option, Result, ◌==◌}
+use Rattle.std.specs.Option.{ok_or}
+use Rattle.refusals.specs.declared.Refusal.{Refusal}
+use Rattle.refusals.specs.declared.Refusal.TheVariants.{UnknownCode}
 use Rattle.modes.specs.declared.family.Family.{Family}
 use Rattle.modes.specs.declared.family.Family.TheVariants.{Codebook, Chaining, CipherFeedback, OutputFeedback}
 use Rattle.modes.specs.declared.way.Way.{Way}
@@ -46,6 +49,10 @@ modes = Ecb ∷ Cbc ∷ CbcInterleaved ∷ Cfb64 ∷ Cfb8 ∷ Cfb1 ∷ CfbPipeli
 
 abbrev pub with_code : ℕ → Option Mode
 with_code code = first_with code modes
+
+-- the mode that a code names, or the refusal that tells the code
+abbrev pub mode_of_code : ℕ → Result Mode Refusal
+mode_of_code code = ok_or (with_code code) (UnknownCode code)
 
 -- each mode has a code that names it and no other
 abbrev pub CodesNameModes : Type 0

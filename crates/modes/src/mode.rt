@@ -1,6 +1,6 @@
 //! The eleven modes and the table of their figures.
 ghost use Rattle.std.specs.Prelude.{◌≡◌, ◌^◌, ◌<◌, ◌≤◌, Some, ◌≢◌, nat_lt};
-ghost use Rattle.modes.specs.Table.{row, with_code, named, distance_of, memory_of, reach_of, CodesNameModes};
+ghost use Rattle.modes.specs.Table.{row, with_code, mode_of_code, named, distance_of, memory_of, reach_of, CodesNameModes};
 ghost use Rattle.modes.specs.Bits.{leftmost, shifted};
 ghost use Rattle.modes.specs.Equations.{Equations};
 ghost use Rattle.modes.specs.Laws.{UnitsGiveUnits, Prefix, Restoring, Recovery, Damage};
@@ -10,6 +10,7 @@ use super::family::Family;
 use super::reach::Reach;
 use super::way::Way;
 use cipher::Block;
+use refusals::Refusal;
 
 /// A mode of operation. One that comes in several widths is a mode for each of them.
 #[derive(Clone, Copy, PartialEq, Eq, Debug)]
@@ -51,6 +52,30 @@ impl Row {
     }
 }
 
+impl TryFrom<u8> for Mode {
+    type Error = Refusal;
+
+    ghost try_from_gives = { λ code answer. answer ≡ mode_of_code code };
+
+    /// The mode that a code names.
+    fn try_from(code: u8) -> Result<Self, Refusal> {
+        match code {
+            1 => Ok(Mode::Ecb),
+            2 => Ok(Mode::Cbc),
+            3 => Ok(Mode::CbcInterleaved),
+            4 => Ok(Mode::Cfb64),
+            5 => Ok(Mode::Cfb8),
+            6 => Ok(Mode::Cfb1),
+            7 => Ok(Mode::CfbPipelined64),
+            8 => Ok(Mode::CfbPipelined8),
+            9 => Ok(Mode::CfbPipelined1),
+            10 => Ok(Mode::Ofb),
+            11 => Ok(Mode::OfbInterleaved),
+            _ => Err(Refusal::UnknownCode(code)),
+        }
+    }
+}
+
 impl Mode {
     fn row(self) -> Row
         ensures { result ≡ row self }
@@ -70,24 +95,11 @@ impl Mode {
         }
     }
 
-    /// The mode that a code names.
+    /// The mode that a code names, if any.
     pub fn from_code(code: u8) -> Option<Mode>
         ensures { result ≡ with_code code }
     {
-        match code {
-            1 => Some(Mode::Ecb),
-            2 => Some(Mode::Cbc),
-            3 => Some(Mode::CbcInterleaved),
-            4 => Some(Mode::Cfb64),
-            5 => Some(Mode::Cfb8),
-            6 => Some(Mode::Cfb1),
-            7 => Some(Mode::CfbPipelined64),
-            8 => Some(Mode::CfbPipelined8),
-            9 => Some(Mode::CfbPipelined1),
-            10 => Some(Mode::Ofb),
-            11 => Some(Mode::OfbInterleaved),
-            _ => None,
-        }
+        Mode::try_from(code).ok()
     }
 
     /// The code that names the mode. Each mode has its own.

@@ -14,9 +14,7 @@ impl Order {
     pub fn check(code: u8, initial_values: &[u8]) -> Result<Order, Refusal>
         ensures { answered result ≡ checked code initial_values.now }
     {
-        let Some(mode) = Mode::from_code(code) else {
-            return Err(Refusal::UnknownCode(code));
-        };
+        let mode = Mode::try_from(code)?;
         match InitialValues::read(initial_values) {
             Some(values) if values.count() == mode.initial_values() => Ok(Order { mode, values }),
             _ => Err(Refusal::InitialValueLength(initial_values.len())),
