@@ -1,17 +1,13 @@
 -- What each call is due after the calls before it: a refusal, or the mode's results over all units that the run took, cut by the schedule.
-use Rattle.std.specs.Prelude.{◌≡◌, ℕ, ◌+◌, ◌-◌, ◌^◌, Bool, true, cond, List, [], ◌∷◌, ◌++◌, length, drop, Some, None, Option, nat_lt}
+use Rattle.std.specs.Prelude.{◌≡◌, ℕ, ◌+◌, ◌-◌, Bool, true, cond, List, [], ◌∷◌, ◌++◌, length, drop, Some, None, Option, nat_lt}
 use Rattle.refusals.specs.declared.Refusal.TheVariants.{OutputLength, UnitWidth, UnitLimit}
 use Rattle.modes.specs.Table.{row, distance_of}
 use Rattle.modes.specs.Values.{listed}
+pub use Rattle.modes.specs.Widths.{first_wide}
 use Rattle.modes.specs.Results.{results}
 use Rattle.calls.specs.Limits.{unit_limit}
 use Rattle.calls.specs.Stretches.{passed, inside}
 use Rattle.calls.specs.Calls.{Answer, gave, refused, Told, Calls, new, started, fed, drained, closed, order_of, way_of, taken, handed_out, stretch, count_before}
-
--- the index of the first unit of 2 ^ w or more, where the first of the list has index i
-abbrev pub first_wide : ℕ → ℕ → List ℕ → Option ℕ
-first_wide w i [] = None
-first_wide w i (u ∷ us) = cond (nat_lt u (2 ^ w)) (first_wide w (i + 1) us) (Some i)
 
 -- the distance of the open run, its width, its count now, and how many units are in the engine
 abbrev pub distance_in : Calls true → Option ℕ

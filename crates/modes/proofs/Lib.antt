@@ -1,5 +1,6 @@
 pub mod Openings
 pub mod Xor
+pub mod Wides
 pub mod Grown
 pub mod Fits
 pub mod Registers

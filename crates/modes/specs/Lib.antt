@@ -1,6 +1,7 @@
 pub mod Bits
 pub mod Table
 pub mod Values
+pub mod Widths
 pub mod Orders
 pub mod Results
 pub mod Equations
