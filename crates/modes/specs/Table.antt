@@ -8,11 +8,17 @@ use Rattle.modes.specs.declared.family.Family.TheVariants.{Codebook, Chaining, C
 use Rattle.modes.specs.declared.way.Way.{Way}
 use Rattle.modes.specs.declared.way.Way.TheVariants.{Enciphering, Deciphering}
 use Rattle.modes.specs.declared.reach.Reach.{Reach}
-use Rattle.modes.specs.declared.mode.Row.{Row}
 use Rattle.modes.specs.declared.mode.Mode.{Mode}
 use Rattle.modes.specs.declared.mode.Mode.TheVariants.{Ecb, Cbc, CbcInterleaved, Cfb64, Cfb8, Cfb1, CfbPipelined64, CfbPipelined8, CfbPipelined1, Ofb, OfbInterleaved}
 
-abbrev pub row : Mode → Row
+-- a code, a family, the bits of a unit, and the number of initial values, which is the distance of the equations
+pub record Figures : Type 0 where
+  pub code : ℕ
+  pub family : Family
+  pub width : ℕ
+  pub values : ℕ
+
+abbrev pub row : Mode → Figures
 row Ecb = record { code = 1; family = Codebook; width = 64; values = 0 }
 row Cbc = record { code = 2; family = Chaining; width = 64; values = 1 }
 row CbcInterleaved = record { code = 3; family = Chaining; width = 64; values = 3 }

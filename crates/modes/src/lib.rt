@@ -5,6 +5,7 @@ pub mod family;
 pub mod mode;
 pub mod order;
 pub mod reach;
+mod row;
 pub mod values;
 pub mod way;
 pub mod worked;

@@ -11,6 +11,7 @@ ghost use Rattle.modes.specs.Schedule.{Schedule};
 
 use super::family::Family;
 use super::reach::Reach;
+use super::row::Row;
 use super::way::Way;
 use cipher::Block;
 use refusals::Refusal;
@@ -29,30 +30,6 @@ pub enum Mode {
     CfbPipelined1,
     Ofb,
     OfbInterleaved,
-}
-
-// What the table says of a mode: the rest of its figures follows from this.
-#[derive(Clone, Copy)]
-struct Row {
-    code: u8,
-    family: Family,
-    // bits in a unit
-    width: usize,
-    // how many initial values, and so the distance of the equations
-    values: usize,
-}
-
-impl Row {
-    fn new(code: u8, family: Family, width: usize, values: usize) -> Self
-        ensures { result ≡ record { code = code; family = family; width = width; values = values } }
-    {
-        Row {
-            code,
-            family,
-            width,
-            values,
-        }
-    }
 }
 
 impl TryFrom<u8> for Mode {
@@ -163,7 +140,7 @@ impl Mode {
         ensures proper { result ≢ Some 0 }
         ensures schedule { Schedule }
     {
-        self.family().distance(way, self.initial_values())
+        self.row().distance(way)
     }
 
     /// How many ciphered units before its own a plain unit rests on, so that a receiver recovers once they arrived; none for the
@@ -172,7 +149,7 @@ impl Mode {
         ensures value { result ≡ memory_of self }
         ensures recovery { Recovery }
     {
-        self.family().memory(self.width(), self.initial_values())
+        self.row().memory()
     }
 
     /// Which plain units behind an altered ciphered unit it can make wrong, besides its own.
@@ -180,7 +157,7 @@ impl Mode {
         ensures value { result ≡ reach_of self }
         ensures damage { Damage }
     {
-        self.family().reach(self.width(), self.initial_values())
+        self.row().reach()
     }
 
     /// Whether a number has no more bits than a unit.

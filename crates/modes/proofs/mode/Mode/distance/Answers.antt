@@ -1,10 +1,9 @@
-use Rattle.std.proofs.Common.{◌≡◌, sym, ◌∙◌, rules}
-use Rattle.modes.specs.Table.{distance_of}
 use Rattle.modes.proofs.Fits.{distance_proper}
 use Rattle.modes.proofs.Entries.{schedule}
 use Rattle.modes.proofs.mode.Mode.distance.Goals as goal
 
-pub returns : goal.returns
-returns c =
-    let value : c.distance.result ≡ distance_of c.args.self c.args.way = search rules in
-    record { value = value; proper = λ e. distance_proper c.args.self c.args.way (sym value ∙ e); schedule = schedule }
+pub returns-clause-proper : goal.returns-clause-proper
+returns-clause-proper c = λ e. distance_proper c.args.self c.args.way (cc)
+
+pub returns-clause-schedule : goal.returns-clause-schedule
+returns-clause-schedule c = schedule

@@ -1,6 +1,5 @@
-use Rattle.std.proofs.Common.{rules}
 use Rattle.modes.proofs.Receiving.{recovery}
 use Rattle.modes.proofs.mode.Mode.memory.Goals as goal
 
-pub returns : goal.returns
-returns c = record { value = search rules; recovery = recovery }
+pub returns-clause-recovery : goal.returns-clause-recovery
+returns-clause-recovery c = recovery

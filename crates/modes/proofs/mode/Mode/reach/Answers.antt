@@ -1,6 +1,5 @@
-use Rattle.std.proofs.Common.{rules}
 use Rattle.modes.proofs.Damages.{damage}
 use Rattle.modes.proofs.mode.Mode.reach.Goals as goal
 
-pub returns : goal.returns
-returns c = record { value = search rules; damage = damage }
+pub returns-clause-damage : goal.returns-clause-damage
+returns-clause-damage c = damage
