@@ -1,5 +1,6 @@
 //! The eleven modes and the table of their figures.
 ghost use Rattle.std.specs.Prelude.{◌≡◌, ◌^◌, ◌<◌, ◌≤◌, Some, ◌≢◌, nat_lt, ℕ, List};
+ghost use Rattle.std.specs.Fmt.{styled_text};
 ghost use Rattle.std.specs.Iterator.{IsFinite, AlwaysYields};
 ghost use Rattle.std.specs.Iterator.Runs.{CountFits};
 ghost use Rattle.modes.specs.Table.{row, with_code, mode_of_code, named, distance_of, memory_of, reach_of, CodesNameModes};
@@ -15,6 +16,7 @@ use super::row::Row;
 use super::way::Way;
 use cipher::Block;
 use refusals::Refusal;
+use std::fmt;
 
 /// A mode of operation. One that comes in several widths is a mode for each of them.
 #[derive(Clone, Copy, PartialEq, Eq, Debug)]
@@ -195,5 +197,16 @@ impl Mode {
         } else {
             unit
         }
+    }
+}
+
+/// The usual short name.
+impl fmt::Display for Mode {
+    ghost output = { λ mode. Some (named mode) };
+
+    ghost styled_output = { λ mode style. Some (styled_text style (named mode)) };
+
+    fn fmt<W: fmt::Write>(&self, f: &mut fmt::Formatter<W>) -> fmt::Result {
+        f.pad(self.name())
     }
 }

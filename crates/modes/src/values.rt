@@ -5,6 +5,8 @@ ghost use Rattle.modes.specs.Values.{listed, values_in};
 use cipher::Block;
 use cipher::bytes::block_at;
 
+// No arrays in the variants, which a method could give as a slice: to a specification an array is a list of any length, so `One`
+// and `Three` could list the same values, and two orders that say the same would differ.
 /// As many initial values as a mode has: none, one or three.
 #[derive(Clone, Copy)]
 pub enum InitialValues {
