@@ -18,17 +18,16 @@ use Rattle.modes.proofs.Registers.{before_same, before_below, register_same, reg
 pub plain_same : (F G : ℕ → ℕ) (f : Family) (w : ℕ) (ivs xs ys : List ℕ) (i c : ℕ) → ((j : ℕ) → length ivs + j ≤ i → get_or xs j 0 ≡ get_or ys j 0)
     → plain F G f w ivs xs i c ≡ plain F G f w ivs ys i c
 plain_same F G Codebook w ivs xs ys i c h = refl
-plain_same F G Chaining w ivs xs ys i c h = ap (bit_xor (G c)) (before_same ivs xs ys i (λ j e. h j (omega arith)))
-plain_same F G CipherFeedback w ivs xs ys i c h = ap (λ r. bit_xor c (leftmost w (F r))) (register_same w ivs xs ys i h)
+plain_same F G Chaining w ivs xs ys i c h = rw (before_same ivs xs ys i (λ j e. h j (omega arith)))
+plain_same F G CipherFeedback w ivs xs ys i c h = rw (register_same w ivs xs ys i h)
 plain_same F G OutputFeedback w ivs xs ys i c h = refl
 
 -- a ciphered unit sees those before it
 ciphered_same : (F : ℕ → ℕ) (f : Family) (w δ : ℕ) (ivs xs ys : List ℕ) (i p : ℕ) → Fit f w δ → length ivs ≡ δ
     → ((j : ℕ) → j < i → get_or xs j 0 ≡ get_or ys j 0) → ciphered F f w ivs xs i p ≡ ciphered F f w ivs ys i p
 ciphered_same F Codebook w δ ivs xs ys i p fit len h = refl
-ciphered_same F Chaining w δ ivs xs ys i p fit len h = ap (λ b. F (bit_xor p b)) (before_same ivs xs ys i (λ j e. h j (omega arith)))
-ciphered_same F CipherFeedback w δ ivs xs ys i p fit len h =
-    ap (λ r. bit_xor p (leftmost w (F r))) (register_same w ivs xs ys i (λ j l. h j (omega arith)))
+ciphered_same F Chaining w δ ivs xs ys i p fit len h = rw (before_same ivs xs ys i (λ j e. h j (omega arith)))
+ciphered_same F CipherFeedback w δ ivs xs ys i p fit len h = rw (register_same w ivs xs ys i (λ j l. h j (omega arith)))
 ciphered_same F OutputFeedback w δ ivs xs ys i p fit len h = refl
 
 -- each ciphered unit comes from its plain unit and the whole list

@@ -1,5 +1,5 @@
 -- The schedule: each unit enters in the first cycle in which it may.
-use Rattle.std.proofs.Common.{◌≡◌, ℕ, zero, suc, ◌+◌, ◌-◌, ◌*◌, ◌/◌, ◌<◌, ◌≤◌, Some, None, Option, sym, refl, ap, ◌∙◌, subst, ⊎_elim, add-mul, one-mul, mul-zero, zero-mul, div-mul-le_self, arith}
+use Rattle.std.proofs.Common.{◌≡◌, ℕ, zero, suc, ◌+◌, ◌-◌, ◌*◌, ◌/◌, ◌<◌, ◌≤◌, Some, None, Option, sym, refl, ap, ◌∙◌, subst, ⊎_elim, mul-zero, zero-mul, div-mul-le_self, arith}
 use native.Mathlib.Nat.{add-div_right, div-eq_of_lt, div-zero}
 use Rattle.std.proofs.lemmas.Nat.{le-div, mul-le}
 use Rattle.std.proofs.lemmas.Bool.{cases_lt}
@@ -18,24 +18,21 @@ entry_least D (Some δ) j = omega arith
 
 -- before its distance, and in an engine no deeper than the distance, a unit waits for none
 pub entry_early : (D δ j : ℕ) → j < δ → entry D (Some δ) j ≡ j
-entry_early D δ j l = ap (λ x. j + x * (D - δ)) (div-eq_of_lt l) ∙ omega (arith, zero-mul (D - δ))
+entry_early D δ j l = grind (arith, div-eq_of_lt l, zero-mul (D - δ))
 
 pub entry_flat : (D δ j : ℕ) → D ≤ δ → entry D (Some δ) j ≡ j
 entry_flat D δ j l =
     let z : D - δ ≡ 0 = omega arith in
-    ap (λ x. j + j / δ * x) z ∙ omega (arith, mul-zero (j / δ))
+    grind (arith, mul-zero (j / δ))
 
 -- else a distance on is D cycles on
 pub entry_apart : (D δ i : ℕ) → 0 < δ → δ ≤ D → entry D (Some δ) (i + δ) ≡ entry D (Some δ) i + D
-entry_apart D δ i pos l =
-    let q : (i + δ) / δ ≡ i / δ + 1 = add-div_right i pos in
-    let p : (i / δ + 1) * (D - δ) ≡ i / δ * (D - δ) + (D - δ) = add-mul (i / δ) 1 (D - δ) ∙ ap (λ x. i / δ * (D - δ) + x) (one-mul (D - δ)) in
-    ap (λ x. i + δ + x * (D - δ)) q ∙ omega (arith, p)
+entry_apart D δ i pos l = grind (arith, add-div_right i pos)
 
 -- a stretch ends as its last unit enters
 pub cost_last : (D : ℕ) (δ : Option ℕ) (s : ℕ) → cost D δ (s + 1) ≡ entry D δ s + 1
-cost_last D None s = let e : s + 1 ≡ suc s = omega arith in ap (cost D None) e ∙ omega arith
-cost_last D (Some δ) s = let e : s + 1 ≡ suc s = omega arith in ap (cost D (Some δ)) e ∙ omega arith
+cost_last D None s = grind arith
+cost_last D (Some δ) s = grind arith
 
 -- a result is out before the unit at its distance enters
 pub leaving_in_time : (D δ i : ℕ) → 0 < δ → 1 ≤ D → leaving D (Some δ) i < entry D (Some δ) (i + δ)

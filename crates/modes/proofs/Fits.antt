@@ -1,6 +1,6 @@
 -- The widths and distances of each family. All that the laws need to know of the table.
-use Rattle.std.proofs.Common.{◌≡◌, ℕ, zero, suc, ◌*◌, ◌/◌, ◌^◌, ◌<◌, ◌≤◌, Bool, true, ◌&&◌, eqb, ltb, leb, List, [], ◌∷◌, Some, sym, refl, ◌∙◌, subst, ⊎_elim, mul_comm, mul-zero, mul-suc, arith}
-use Rattle.std.proofs.lemmas.Bool.{eqb-true, ltb-true, leb-true, and_parts, cases_Bool, cond-true, cond-false}
+use Rattle.std.proofs.Common.{◌≡◌, ℕ, zero, suc, ◌*◌, ◌/◌, ◌^◌, ◌<◌, ◌≤◌, Bool, true, ◌&&◌, eqb, ltb, leb, List, [], ◌∷◌, Some, sym, refl, ◌∙◌, subst, ⊎_elim, mul_comm, mul-zero, mul-suc, arith, lit<}
+use Rattle.std.proofs.lemmas.Bool.{ltb-true, leb-true, and_parts, cases_Bool, cond-true, cond-false}
 use Rattle.modes.specs.declared.family.Family.{Family}
 use Rattle.modes.specs.declared.family.Family.TheVariants.{Codebook, Chaining, CipherFeedback, OutputFeedback}
 use Rattle.modes.specs.declared.way.Way.{Way}
@@ -15,20 +15,6 @@ Fit Chaining w δ = (w ≡ 64) × (0 < δ)
 Fit CipherFeedback w δ = (w * (64 / w) ≡ 64) × (0 < δ)
 Fit OutputFeedback w δ = (w ≡ 64) × (0 < δ)
 
--- as a test of a row
-
-abbrev fits : Family → ℕ → ℕ → Bool
-fits Codebook w δ = eqb w 64
-fits Chaining w δ = eqb w 64 && ltb 0 δ
-fits CipherFeedback w δ = eqb (w * (64 / w)) 64 && ltb 0 δ
-fits OutputFeedback w δ = eqb w 64 && ltb 0 δ
-
-fits_true : (f : Family) (w δ : ℕ) → fits f w δ ≡ true → Fit f w δ
-fits_true Codebook w δ e = eqb-true w 64 e
-fits_true Chaining w δ e = let p = and_parts _ _ e in (eqb-true w 64 p.0, ltb-true 0 δ p.1)
-fits_true CipherFeedback w δ e = let p = and_parts _ _ e in (eqb-true (w * (64 / w)) 64 p.0, ltb-true 0 δ p.1)
-fits_true OutputFeedback w δ e = let p = and_parts _ _ e in (eqb-true w 64 p.0, ltb-true 0 δ p.1)
-
 -- what is computed for the whole table holds of each mode
 
 abbrev passes : (Mode → Bool) → List Mode → Bool
@@ -36,7 +22,7 @@ passes test [] = true
 passes test (m ∷ ms) = test m && passes test ms
 
 first_passes : (test : Mode → Bool) (code : ℕ) (ms : List Mode) (m : Mode) → first_with code ms ≡ Some m → passes test ms ≡ true → test m ≡ true
-first_passes test code [] m e h = let z : ◌≡◌ {A = ℕ} 0 1 = cc in absurd (omega arith)
+first_passes test code [] m e h = cc
 first_passes test code (n ∷ ms) m e h =
     let p = and_parts (test n) (passes test ms) h in
     ⊎_elim
@@ -63,18 +49,22 @@ pub each_passes : (test : Mode → Bool) → passes test modes ≡ true → (m :
 each_passes test h m = first_passes test (row m).code modes m (codes_name_modes m) h
 
 pub fit : (m : Mode) → Fit (row m).family (row m).width (row m).values
-fit m =
-    fits_true (row m).family (row m).width (row m).values
-    (each_passes (λ n. fits (row n).family (row n).width (row n).values) refl m)
+fit = elim [
+  | Ecb ↦ refl
+  | Cbc ↦ (refl, lit< tt)
+  | CbcInterleaved ↦ (refl, lit< tt)
+  | Cfb64 ↦ (refl, lit< tt)
+  | Cfb8 ↦ (refl, lit< tt)
+  | Cfb1 ↦ (refl, lit< tt)
+  | CfbPipelined64 ↦ (refl, lit< tt)
+  | CfbPipelined8 ↦ (refl, lit< tt)
+  | CfbPipelined1 ↦ (refl, lit< tt)
+  | Ofb ↦ (refl, lit< tt)
+  | OfbInterleaved ↦ (refl, lit< tt)
+]
 
 pub code_is_byte : (m : Mode) → (row m).code < 2 ^ 8
 code_is_byte m = ltb-true (row m).code (2 ^ 8) (each_passes (λ n. ltb (row n).code (2 ^ 8)) refl m)
-
-pub width_within : (m : Mode) → (0 < (row m).width) × ((row m).width ≤ 64)
-width_within m = (
-  ltb-true 0 (row m).width (each_passes (λ n. ltb 0 (row n).width) refl m),
-  leb-true (row m).width 64 (each_passes (λ n. leb (row n).width 64) refl m),
-)
 
 pub values_within : (m : Mode) → (row m).values ≤ 3
 values_within m = leb-true (row m).values 3 (each_passes (λ n. leb (row n).values 3) refl m)
@@ -84,11 +74,11 @@ pub distance_proper : (m : Mode) (way : Way) → distance_of m way ≡ Some 0 �
 distance_proper m way e = proper (row m).family way (row m).width (row m).values (fit m) e
   where
     proper : (f : Family) (way : Way) (w δ : ℕ) → Fit f w δ → distance f way δ ≡ Some 0 → ⊥
-    proper Codebook way w δ fit e = let z : ◌≡◌ {A = ℕ} 0 1 = cc in omega arith
+    proper Codebook way w δ fit e = cc
     proper Chaining Enciphering w δ fit e = let z : δ ≡ 0 = cc in omega (arith, fit.1)
-    proper Chaining Deciphering w δ fit e = let z : ◌≡◌ {A = ℕ} 0 1 = cc in omega arith
+    proper Chaining Deciphering w δ fit e = cc
     proper CipherFeedback Enciphering w δ fit e = let z : δ ≡ 0 = cc in omega (arith, fit.1)
-    proper CipherFeedback Deciphering w δ fit e = let z : ◌≡◌ {A = ℕ} 0 1 = cc in omega arith
+    proper CipherFeedback Deciphering w δ fit e = cc
     proper OutputFeedback way w δ fit e = let z : δ ≡ 0 = cc in omega (arith, fit.1)
 
 -- units of 64 bits are blocks

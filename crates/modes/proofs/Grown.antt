@@ -1,33 +1,21 @@
 -- Lists that grow one by one.
-use Rattle.std.proofs.Common.{◌≡◌, ℕ, zero, suc, ◌^◌, ◌<◌, ◌≤◌, List, [], ◌∷◌, ◌++◌, length, get_or, take, sym, refl, ap, ◌∙◌, ⊎_elim, arith}
-use Rattle.std.proofs.lemmas.List.{get_or_append_left, get_or_push, get_or-take, length_push, length-take-le, ext_get_or}
-use Rattle.std.proofs.lemmas.Bool.{cases_order}
+use Rattle.std.proofs.Common.{◌≡◌, ℕ, zero, suc, ◌^◌, ◌<◌, ◌≤◌, List, [], ◌∷◌, ◌++◌, length, get_or, take, sym, refl, ◌∙◌, arith}
+use Rattle.std.proofs.lemmas.List.{get_or-take, length-take-le, ext_get_or}
+use Rattle.std.proofs.lemmas.Grind.{common_steps}
 use Rattle.modes.specs.Values.{Units}
 use Rattle.modes.specs.Results.{grown}
 
 pub units_push : (w : ℕ) (us : List ℕ) (u : ℕ) → Units w us → u < 2 ^ w → Units w (us ++ u ∷ [])
-units_push w us u hs h k l =
-    let len = length_push us u in
-    ⊎_elim
-    (λ e. rw (get_or_push us u 0 k (sym e)) h)
-    (⊎_elim (λ a. rw (get_or_append_left us (u ∷ []) 0 k a) (hs k a)) (λ a. absurd (omega arith)))
-    (cases_order k (length us))
+units_push w us u hs h k l = grind (arith, common_steps, hs k)
 
 module _ (next : List ℕ → ℕ → ℕ) where
   pub length_grown : (n : ℕ) → length (grown next n) ≡ n
   length_grown zero = refl
-  length_grown (suc n) = length_push (grown next n) _ ∙ omega (arith, length_grown n)
+  length_grown (suc n) = grind (arith, common_steps, length_grown n)
 
   pub grown_at : (n i : ℕ) → i < n → get_or (grown next n) i 0 ≡ next (grown next i) i
   grown_at zero i h = absurd (omega arith)
-  grown_at (suc n) i h =
-      let len = length_grown n in
-      ⊎_elim
-      (λ e. get_or_push (grown next n) _ 0 i (len ∙ sym e) ∙ ap (λ k. next (grown next k) k) (sym e))
-      (⊎_elim
-      (λ l. get_or_append_left (grown next n) _ 0 i (omega arith) ∙ grown_at n i l)
-      (λ l. absurd (omega arith)))
-      (cases_order i n)
+  grown_at (suc n) i h = grind (arith, common_steps, length_grown n, grown_at n i)
 
   -- two of different length agree as far as both go
   pub grown_agree : (m n i : ℕ) → i < m → i < n → get_or (grown next m) i 0 ≡ get_or (grown next n) i 0
@@ -50,4 +38,5 @@ pub grown_same : (next next' : List ℕ → ℕ → ℕ) (n : ℕ) → ((i : ℕ
 grown_same next next' zero h = refl
 grown_same next next' (suc n) h =
     let ih = grown_same next next' n (λ i l. h i (omega arith)) in
-    ap (λ x. grown next n ++ x ∷ []) (h n (omega arith)) ∙ ap (λ xs. xs ++ next' xs n ∷ []) ih
+    let e = h n (omega arith) in
+    cc

@@ -2,6 +2,8 @@
 use Rattle.std.proofs.Common.{◌≡◌, ℕ, zero, suc, ◌+◌, ◌-◌, ◌<◌, ◌≤◌, cond, leb, List, length, get_or, sym, ap, ◌∙◌, ⊎_elim, arith}
 use lib.Bits.{bit_xor}
 use Rattle.std.proofs.lemmas.List.{ext_get_or}
+use Rattle.std.proofs.lemmas.Bool.Decides.{nat_tests}
+use Rattle.std.proofs.lemmas.Grind.{common_steps}
 use Rattle.std.proofs.lemmas.Bool.{cases_lt, le-leb, lt-leb, cond-true, cond-false}
 use Rattle.modes.specs.declared.family.Family.{Family}
 use Rattle.modes.specs.declared.family.Family.TheVariants.{Codebook, Chaining, CipherFeedback, OutputFeedback}
@@ -22,20 +24,13 @@ up_to n Q h (suc k) l l' = h k (omega arith)
 
 -- the unit at the distance before unit i
 back_early : (δ : ℕ) (IV X : ℕ → ℕ) (i : ℕ) → i ≤ δ → back δ IV X i ≡ IV i
-back_early δ IV X i l = cond-true (leb i δ) (IV i) (X (i - δ)) (le-leb i δ l)
+back_early δ IV X i l = grind (arith, nat_tests)
 
 back_late : (δ : ℕ) (IV X : ℕ → ℕ) (k j : ℕ) → δ + j ≡ k → back δ IV X (suc k) ≡ X (suc j)
-back_late δ IV X k j e =
-    let q : suc k - δ ≡ suc j = omega arith in
-    cond-false (leb (suc k) δ) (IV (suc k)) (X (suc k - δ)) (lt-leb (suc k) δ (omega arith)) ∙ ap X q
+back_late δ IV X k j e = grind (arith, nat_tests)
 
 back_is_before : (δ : ℕ) (ivs xs : List ℕ) (k : ℕ) → length ivs ≡ δ → before ivs xs k ≡ back δ (unit ivs) (unit xs) (suc k)
-back_is_before δ ivs xs k len =
-    ⊎_elim
-    (λ l. before_early ivs xs k (omega arith) ∙ sym (back_early δ (unit ivs) (unit xs) (suc k) (omega arith)))
-    (λ l. let e : δ + (k - δ) ≡ k = omega arith in
-    before_late ivs xs k (k - δ) (omega arith) ∙ sym (back_late δ (unit ivs) (unit xs) k (k - δ) e))
-    (cases_lt k δ)
+back_is_before δ ivs xs k len = grind (arith, common_steps, nat_tests)
 
 -- the input blocks and the output blocks, numbered
 

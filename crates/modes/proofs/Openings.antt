@@ -2,8 +2,8 @@
 use Rattle.std.proofs.Common.{◌≡◌, ℕ, zero, suc, ◌+◌, ◌*◌, ◌/◌, ◌%◌, ◌^◌, ◌<◌, true, eqb, List, [], ◌∷◌, map, length, get_or, Ok, sym, refl, ap, ◌∙◌, arith, lit<}
 use mathlib.Core.HLevel.{is_prop→PathP}
 use mathlib.Core.Bool.{Bool-set}
-use Rattle.std.proofs.lemmas.Nat.{mod_below}
-use Rattle.std.proofs.lemmas.Bool.{eqb-true, eq-eqb, ltb-true, and_parts, cond-true}
+use Rattle.std.proofs.lemmas.Bool.Decides.{nat_tests}
+use Rattle.std.proofs.lemmas.Bool.{eqb-true, eq-eqb, and_parts, cond-true}
 use Rattle.modes.specs.declared.mode.Mode.{Mode}
 use Rattle.modes.specs.declared.values.InitialValues.{InitialValues}
 use Rattle.modes.specs.declared.values.InitialValues.TheVariants.{Empty, One, Three}
@@ -17,7 +17,7 @@ use Rattle.modes.specs.Orders.{opened, opened_by, OrdersAreAnswers, SameOpeningS
 
 pub each_is_block : (vs : List ℕ) → are_blocks vs ≡ true → Units 64 vs
 each_is_block [] e k l = absurd (omega arith)
-each_is_block (v ∷ vs) e zero l = ltb-true v (2 ^ 64) (and_parts _ _ e).0
+each_is_block (v ∷ vs) e zero l = grind (arith, nat_tests)
 each_is_block (v ∷ vs) e (suc k) l = each_is_block vs (and_parts _ _ e).1 k (omega arith)
 
 pub suits_begins : (m : Mode) (values : InitialValues) → suits m values ≡ true → Begins m (listed values)
@@ -34,7 +34,7 @@ eight_digits v h = omega arith
 
 low_bytes : (xs : List ℕ) (k : ℕ) → get_or (map (λ x. x % 2 ^ 8) xs) k 0 < 2 ^ 8
 low_bytes [] k = lit< tt
-low_bytes (x ∷ xs) zero = mod_below x (2 ^ 8) (lit< tt)
+low_bytes (x ∷ xs) zero = omega arith
 low_bytes (x ∷ xs) (suc k) = low_bytes xs k
 
 -- the bytes that open a mode with given values
@@ -92,14 +92,9 @@ orders_are_answers o = (
 
 listed_once : (u v : InitialValues) → listed u ≡ listed v → u ≡ v
 listed_once Empty Empty e = refl
-listed_once Empty (One a) e = absurd (omega (arith, ap length e))
-listed_once Empty (Three a b c) e = absurd (omega (arith, ap length e))
-listed_once (One a) Empty e = absurd (omega (arith, ap length e))
 listed_once (One a) (One b) e = cc
-listed_once (One a) (Three b c d) e = absurd (omega (arith, ap length e))
-listed_once (Three a b c) Empty e = absurd (omega (arith, ap length e))
-listed_once (Three a b c) (One d) e = absurd (omega (arith, ap length e))
 listed_once (Three a b c) (Three x y z) e = cc
+listed_once _ _ e = cc
 
 pub same_opening_same_order : SameOpeningSameOrder
 same_opening_same_order o p e =

@@ -125,7 +125,7 @@ plain_rests F G CipherFeedback w (suc d) r fit mem ivs ivs' xs ys a s len len' h
     ∙ ap (register w ivs' ys) es in
     let own : get_or xs (a + r) 0 ≡ get_or ys (s + r) 0 = (h r (omega arith)).0 in
     cc (same, own)
-plain_rests F G OutputFeedback w δ r fit mem ivs ivs' xs ys a s len len' h = let z : ◌≡◌ {A = ℕ} 0 1 = cc in absurd (omega arith)
+plain_rests F G OutputFeedback w δ r fit mem ivs ivs' xs ys a s len len' h = cc
 
 pub recovery : Recovery
 recovery F G F' G' ends m r mem ivs ivs' ps xs b b' hp hx i j ri hi rj hj eq =

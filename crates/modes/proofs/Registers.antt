@@ -1,45 +1,35 @@
 -- What stands at the distance before a place, and the register of cipher feedback.
-use Rattle.std.proofs.Common.{◌≡◌, ℕ, zero, suc, ◌+◌, ◌-◌, ◌*◌, ◌/◌, ◌%◌, ◌^◌, ◌<◌, ◌≤◌, List, length, get_or, sym, ap, ◌∙◌, ⊎_elim, mod-lt, suc-mul, zero-mul, arith}
+use Rattle.std.proofs.Common.{◌≡◌, ℕ, zero, suc, ◌+◌, ◌-◌, ◌*◌, ◌/◌, ◌%◌, ◌^◌, ◌<◌, ◌≤◌, List, length, get_or, sym, ap, ◌∙◌, mod-lt, suc-mul, zero-mul, arith}
 use native.Mathlib.Nat.{mod-one, mod-mod}
+use Rattle.std.proofs.lemmas.Grind.{common_steps}
+use Rattle.std.proofs.lemmas.Bool.Decides.{nat_tests}
 use Rattle.std.proofs.lemmas.Nat.{mod-pow-add, mod_low, shr_high, pow_pos}
-use Rattle.std.proofs.lemmas.List.{get_or_append_left, get_or-append-add}
-use Rattle.std.proofs.lemmas.Bool.{cases_lt, le-ltb, lt-ltb, cond-true, cond-false}
 use Rattle.modes.specs.Bits.{shifted}
 use Rattle.modes.specs.Values.{Units}
 use Rattle.modes.specs.Results.{before, register}
 
 pub before_early : (ivs xs : List ℕ) (i : ℕ) → i < length ivs → before ivs xs i ≡ get_or ivs i 0
-before_early ivs xs i h = get_or_append_left ivs xs 0 i h
+before_early ivs xs i h = grind (arith, common_steps)
 
 pub before_late : (ivs xs : List ℕ) (i j : ℕ) → length ivs + j ≡ i → before ivs xs i ≡ get_or xs j 0
-before_late ivs xs i j h = ap (before ivs xs) (sym h) ∙ get_or-append-add ivs xs j 0
+before_late ivs xs i j h = grind (arith, common_steps)
 
 -- it sees one place of the list
 pub before_same : (ivs xs ys : List ℕ) (i : ℕ) → ((j : ℕ) → length ivs + j ≡ i → get_or xs j 0 ≡ get_or ys j 0) → before ivs xs i ≡ before ivs ys i
-before_same ivs xs ys i h =
-    ⊎_elim
-    (λ l. before_early ivs xs i l ∙ sym (before_early ivs ys i l))
-    (λ l. let e : length ivs + (i - length ivs) ≡ i = omega arith in
-    before_late ivs xs i (i - length ivs) e ∙ h (i - length ivs) e ∙ sym (before_late ivs ys i (i - length ivs) e))
-    (cases_lt i (length ivs))
+before_same ivs xs ys i h = grind (arith, common_steps)
 
 pub before_below : (w : ℕ) (ivs xs : List ℕ) (i : ℕ) → Units w ivs → Units w xs → i < length ivs + length xs → before ivs xs i < 2 ^ w
-before_below w ivs xs i hi hx l =
-    ⊎_elim
-    (λ a. rw (before_early ivs xs i a) (hi i a))
-    (λ a. let e : length ivs + (i - length ivs) ≡ i = omega arith in
-    rw (before_late ivs xs i (i - length ivs) e) (hx (i - length ivs) (omega arith)))
-    (cases_lt i (length ivs))
+before_below w ivs xs i hi hx l = grind (arith, common_steps)
 
 -- the register
 
 pub register_early : (w : ℕ) (ivs xs : List ℕ) (i : ℕ) → i < length ivs → register w ivs xs i ≡ get_or ivs i 0
-register_early w ivs xs zero l = before_early ivs xs 0 l
-register_early w ivs xs (suc i) l = cond-true _ _ _ (lt-ltb (suc i) (length ivs) l) ∙ before_early ivs xs (suc i) l
+register_early w ivs xs zero l = grind (arith, common_steps)
+register_early w ivs xs (suc i) l = grind (arith, common_steps, nat_tests)
 
 pub register_late : (w : ℕ) (ivs xs : List ℕ) (i : ℕ) → length ivs ≤ suc i
     → register w ivs xs (suc i) ≡ shifted w (register w ivs xs i) (before ivs xs (suc i))
-register_late w ivs xs i l = cond-false _ _ _ (le-ltb (suc i) (length ivs) l)
+register_late w ivs xs i l = grind (arith, nat_tests)
 
 -- it sees the places up to the distance before its own
 pub register_same : (w : ℕ) (ivs xs ys : List ℕ) (i : ℕ) → ((j : ℕ) → length ivs + j ≤ i → get_or xs j 0 ≡ get_or ys j 0)
@@ -51,26 +41,19 @@ register_same w ivs xs ys (suc i) h =
     cc (r, b)
 
 pub register_below : (w : ℕ) (ivs xs : List ℕ) (i : ℕ) → 0 < length ivs → Units 64 ivs → register w ivs xs i < 2 ^ 64
-register_below w ivs xs zero pos h = rw (before_early ivs xs 0 pos) (h 0 pos)
+register_below w ivs xs zero pos h = grind (arith, common_steps)
 register_below w ivs xs (suc i) pos h =
-    ⊎_elim
-    (λ l. rw (register_early w ivs xs (suc i) l) (h (suc i) l))
-    (λ l. rw (register_late w ivs xs i l) (mod-lt (register w ivs xs i * 2 ^ w + before ivs xs (suc i)) (pow_pos 64)))
-    (cases_lt (suc i) (length ivs))
+    grind (arith, common_steps, nat_tests, mod-lt (register w ivs xs i * 2 ^ w + before ivs xs (suc i)) (pow_pos 64))
 
 -- the low bits of a register are the units that came in last
 
 mod_low_bits : (n m : ℕ) → m ≤ 64 → n % 2 ^ 64 % 2 ^ m ≡ n % 2 ^ m
 mod_low_bits n m h =
-    let e : (64 - m) + m ≡ 64 = omega arith in
-    let p : n % 2 ^ ((64 - m) + m) ≡ (n / 2 ^ m % 2 ^ (64 - m)) * 2 ^ m + n % 2 ^ m = mod-pow-add n (64 - m) m in
-    ap (λ k. n % 2 ^ k % 2 ^ m) (sym e) ∙ ap (λ x. x % 2 ^ m) p ∙ mod_low (n / 2 ^ m % 2 ^ (64 - m)) m (n % 2 ^ m) (mod-lt n (pow_pos m))
+    grind (arith, mod-pow-add n (64 - m) m, mod_low (n / 2 ^ m % 2 ^ (64 - m)) m (n % 2 ^ m) (mod-lt n (pow_pos m)))
 
 shifted_low : (w r c k : ℕ) → c < 2 ^ w → k + w ≤ 64 → shifted w r c % 2 ^ (k + w) ≡ (r % 2 ^ k) * 2 ^ w + c
 shifted_low w r c k h l =
-    mod_low_bits (r * 2 ^ w + c) (k + w) l ∙ mod-pow-add (r * 2 ^ w + c) k w
-    ∙ ap (λ x. (x % 2 ^ k) * 2 ^ w + (r * 2 ^ w + c) % 2 ^ w) (shr_high r w c h)
-    ∙ ap (λ x. (r % 2 ^ k) * 2 ^ w + x) (mod_low r w c h)
+    rw (mod_low_bits (r * 2 ^ w + c) (k + w) l, mod-pow-add (r * 2 ^ w + c) k w, shr_high r w c h, mod_low r w c h)
 
 module _ (w d : ℕ) where
   -- one more unit in the low bits
