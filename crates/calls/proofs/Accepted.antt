@@ -1,6 +1,7 @@
 -- What an answer with units tells of its call.
-use Rattle.std.proofs.Common.{◌≡◌, ℕ, zero, suc, ◌+◌, ◌^◌, ◌≤◌, Bool, true, false, cond, ltb, List, [], ◌∷◌, length, Some, None, Option, refl, arith}
-use Rattle.std.proofs.lemmas.Bool.{ltb-true, ltb-false}
+use Rattle.std.proofs.Common.{◌≡◌, ℕ, zero, suc, ◌+◌, ◌≤◌, Bool, true, false, cond, ltb, List, [], ◌∷◌, length, Some, None, Option, refl, arith}
+use Rattle.std.proofs.lemmas.Bool.{ltb-false}
+use Rattle.std.proofs.lemmas.Bool.Decides.{nat_tests}
 use Rattle.refusals.specs.declared.Refusal.{Refusal}
 use Rattle.modes.specs.Values.{Units}
 use Rattle.calls.specs.Limits.{unit_limit}
@@ -9,14 +10,9 @@ use Rattle.calls.specs.Due.{first_wide, refusal_to_feed, refusal_to_drain}
 
 -- units among which no wide one is found
 pub none_wide : (w i : ℕ) (us : List ℕ) → first_wide w i us ≡ None → Units w us
-none_wide w i [] e = λ k l. absurd (omega arith)
-none_wide w i (u ∷ us) e = narrow (ltb u (2 ^ w)) refl e (none_wide w (i + 1) us)
-  where
-    narrow : (t : Bool) → ltb u (2 ^ w) ≡ t → cond t (first_wide w (i + 1) us) (Some i) ≡ None → (first_wide w (i + 1) us ≡ None → Units w us)
-        → Units w (u ∷ us)
-    narrow true is e rest zero l = ltb-true u (2 ^ w) is
-    narrow true is e rest (suc k) l = rest e k (omega arith)
-    narrow false is e rest k l = let z : ◌≡◌ {A = ℕ} 0 1 = cc in absurd (omega arith)
+none_wide w i [] e k l = absurd (omega arith)
+none_wide w i (u ∷ us) e zero l = grind (arith, nat_tests)
+none_wide w i (u ∷ us) e (suc k) l = let rest : first_wide w (i + 1) us ≡ None = grind (arith, nat_tests) in none_wide w (i + 1) us rest k (omega arith)
 
 -- a feed that was not refused
 pub record Accepted (width count : ℕ) (us hs due : List ℕ) : Type 0 where
@@ -33,14 +29,10 @@ feed_accepted in_engine width count us room hs due e =
     passes : (small : Bool) (wide : Option ℕ) (many : Bool) (a b : Refusal) (at : ℕ → Refusal)
         → gave hs ≡ cond small (refused a) (elim wide [ Some i ↦ refused (at i) | None ↦ cond many (refused b) (gave due) ])
         → (wide ≡ None) × (many ≡ false) × (hs ≡ due)
-    passes true wide many a b at e = let z : ◌≡◌ {A = ℕ} 0 1 = cc in absurd (omega arith)
-    passes false (Some i) many a b at e = let z : ◌≡◌ {A = ℕ} 0 1 = cc in absurd (omega arith)
-    passes false None true a b at e = let z : ◌≡◌ {A = ℕ} 0 1 = cc in absurd (omega arith)
+    passes true wide many a b at e = cc
+    passes false (Some i) many a b at e = cc
+    passes false None true a b at e = cc
     passes false None false a b at e = (refl, refl, cc)
 
 pub drain_gives : (in_engine room : ℕ) (hs due : List ℕ) → gave hs ≡ refusal_to_drain in_engine room (gave due) → hs ≡ due
-drain_gives in_engine room hs due e = passes (ltb room in_engine) _ e
-  where
-    passes : (small : Bool) (a : Refusal) → gave hs ≡ cond small (refused a) (gave due) → hs ≡ due
-    passes true a e = let z : ◌≡◌ {A = ℕ} 0 1 = cc in absurd (omega arith)
-    passes false a e = cc
+drain_gives in_engine room hs due e = grind (arith, nat_tests)

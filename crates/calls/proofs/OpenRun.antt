@@ -1,7 +1,7 @@
 -- How far the open run has come, in a list of calls whose answers were due.
-use Rattle.std.proofs.Common.{◌≡◌, ℕ, ◌+◌, ◌-◌, ◌<◌, ◌≤◌, true, List, [], ◌∷◌, ◌++◌, length, get_or, drop, sym, refl, ap, ◌∙◌, ⊎_elim, arith}
-use Rattle.std.proofs.lemmas.List.{append-nil, length-append, get_or_append_left, get_or-append_right, take-append-drop, nil_from_length}
-use Rattle.std.proofs.lemmas.Bool.{cases_lt}
+use Rattle.std.proofs.Common.{◌≡◌, ℕ, ◌+◌, ◌-◌, ◌<◌, ◌≤◌, true, List, [], ◌∷◌, ◌++◌, length, get_or, drop, sym, refl, ap, ◌∙◌, arith}
+use Rattle.std.proofs.lemmas.List.{append-nil, length-append, get_or_append_left, take-append-drop, nil_from_length}
+use Rattle.std.proofs.lemmas.Grind.{common_steps}
 use Rattle.modes.specs.declared.way.Way.{Way}
 use Rattle.modes.specs.declared.mode.Mode.{Mode}
 use Rattle.modes.specs.Values.{listed, Units}
@@ -14,12 +14,7 @@ use Rattle.calls.proofs.Stretching.{inside_more, inside_most}
 use Rattle.calls.proofs.Accepted.{feed_accepted, drain_gives}
 
 pub units_append : (w : ℕ) (us vs : List ℕ) → Units w us → Units w vs → Units w (us ++ vs)
-units_append w us vs hu hv k l =
-    let len = length-append us vs in
-    ⊎_elim
-    (λ q. rw (get_or_append_left us vs 0 k q) (hu k q))
-    (λ q. rw (get_or-append_right us vs (length us) k 0 refl q) (hv (k - length us) (omega arith)))
-    (cases_lt k (length us))
+units_append w us vs hu hv k l = grind (arith, common_steps, hu k, hv (k - length us))
 
 -- the first results, and then the others
 results_joined : (F G : ℕ → ℕ) (m : Mode) (way : Way) (ivs us vs : List ℕ) (a b : ℕ) → a ≤ b → ((i : ℕ) → i < a → get_or us i 0 ≡ get_or vs i 0)

@@ -1,5 +1,5 @@
 -- Ciphered and plain units, one place at a time and over lists.
-use Rattle.std.proofs.Common.{◌≡◌, ℕ, zero, suc, ◌+◌, ◌-◌, ◌*◌, ◌/◌, ◌^◌, ◌<◌, ◌≤◌, List, length, get_or, sym, refl, ap, ◌∙◌, subst, arith}
+use Rattle.std.proofs.Common.{◌≡◌, ℕ, zero, suc, ◌+◌, ◌-◌, ◌*◌, ◌/◌, ◌^◌, ◌<◌, ◌≤◌, List, length, get_or, sym, refl, ap, ◌∙◌, arith}
 use lib.Bits.{bit_xor}
 use Rattle.std.proofs.lemmas.Nat.{xor_lt, shr_below}
 use Rattle.std.proofs.lemmas.List.{ext_get_or}
@@ -76,7 +76,7 @@ module _ (F G : ℕ → ℕ) (u : Undo F G) where
         let hy : y < 2 ^ 64 = u.forward_is_block _ (register_below w ivs xs i (omega arith) b) in
         let le : w ≤ 64 = width_le w (64 / w) e in
         let sum : w + (64 - w) ≡ 64 = omega arith in
-        xor_lt w x (leftmost w y) hx (shr_below y w (64 - w) (subst (λ k. y < 2 ^ k) (sym sum) hy))
+        xor_lt w x (leftmost w y) hx (shr_below y w (64 - w) (rw sum hy))
 
     -- a unit joined with an output block is a unit
     output_unit : w ≡ 64 → (i x : ℕ) → 0 < δ → x < 2 ^ w → bit_xor x (output F ivs i) < 2 ^ w

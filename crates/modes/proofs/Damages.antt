@@ -82,8 +82,7 @@ module _ (F G : ℕ → ℕ) (u : Undo F G) (w δ : ℕ) (ivs cs xs : List ℕ) 
 
     -- a unit joined with the same key stream is wrong by what was altered
     mask_struck : (k p : ℕ) → bit_xor c k ≡ p → bit_xor x k ≡ bit_xor p (bit_xor c x)
-    mask_struck k p e =
-        ap (λ z. bit_xor z k) (sym (xor_difference c x)) ∙ xor_last_two c (bit_xor c x) k ∙ ap (λ z. bit_xor z (bit_xor c x)) e
+    mask_struck k p e = rw (← e, xor_last_two c k (bit_xor c x), xor_difference c x)
 
     different : w ≡ 64 → G x ≡ G c → ⊥
     different e g = ne (inverse_once F G u x c (as_block e x (hx d hd)) (as_block e c (hc d (omega arith))) g)

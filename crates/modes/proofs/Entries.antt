@@ -36,11 +36,7 @@ cost_last D (Some δ) s = grind arith
 
 -- a result is out before the unit at its distance enters
 pub leaving_in_time : (D δ i : ℕ) → 0 < δ → 1 ≤ D → leaving D (Some δ) i < entry D (Some δ) (i + δ)
-leaving_in_time D δ i pos deep =
-    ⊎_elim
-    (λ l. rw (entry_flat D δ (i + δ) (omega arith)) (omega (arith, entry_flat D δ i (omega arith))))
-    (λ l. rw (entry_apart D δ i pos l) (omega arith))
-    (cases_lt D δ)
+leaving_in_time D δ i pos deep = grind (arith, entry_flat D δ (i + δ), entry_flat D δ i, entry_apart D δ i pos)
 
 -- in any cycle in which it may enter, its own has come
 pub entry_first : (D : ℕ) (δ : Option ℕ) → 1 ≤ D → (δ ≡ Some 0 → ⊥) → (j t : ℕ) → MayEnter D δ j t → entry D δ j ≤ t
@@ -48,18 +44,11 @@ entry_first D None deep ne zero t may = omega arith
 entry_first D None deep ne (suc j) t may = omega (arith, may.in_order j (omega arith))
 entry_first D (Some zero) deep ne j t may = absurd (ne refl)
 entry_first D (Some (suc d)) deep ne j t may =
-    ⊎_elim
-    (λ l. rw (entry_early D (suc d) j l) (in_turn j t may))
-    (λ l. ⊎_elim
-    (λ g. rw (entry_flat D (suc d) j (omega arith)) (in_turn j t may))
-    (λ g. let e : j - suc d + suc d ≡ j = omega arith in
-    let p : entry D (Some (suc d)) j ≡ entry D (Some (suc d)) (j - suc d) + D =
+    let turn = in_turn j t may in
+    let out = λ (l : suc d ≤ j). may.in_time (suc d) (j - suc d) refl (omega arith) in
+    let apart = λ (l : suc d ≤ j) (g : suc d ≤ D). let e : j - suc d + suc d ≡ j = omega arith in
     ap (entry D (Some (suc d))) (sym e) ∙ entry_apart D (suc d) (j - suc d) (omega arith) g in
-    let out : leaving D (Some (suc d)) (j - suc d) < t = may.in_time (suc d) (j - suc d) refl e in
-    let now : entry D (Some (suc d)) (j - suc d) + D ≤ t = omega arith in
-    rw p now)
-    (cases_lt D (suc d)))
-    (cases_lt j (suc d))
+    grind (arith, entry_early D (suc d) j, entry_flat D (suc d) j, out, apart, turn)
   where
     in_turn : (j t : ℕ) → MayEnter D (Some (suc d)) j t → j ≤ t
     in_turn zero t may = omega arith

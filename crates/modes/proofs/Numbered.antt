@@ -1,20 +1,20 @@
 -- The published equations hold of what is sent and received.
-use Rattle.std.proofs.Common.{◌≡◌, ℕ, zero, suc, ◌+◌, ◌-◌, ◌<◌, ◌≤◌, cond, leb, List, length, get_or, sym, ap, ◌∙◌, ⊎_elim, arith}
+use Rattle.std.proofs.Common.{◌≡◌, ℕ, zero, suc, ◌-◌, ◌<◌, ◌≤◌, List, length, get_or, sym, ap, ◌∙◌, ⊎_elim, arith}
 use lib.Bits.{bit_xor}
 use Rattle.std.proofs.lemmas.List.{ext_get_or}
 use Rattle.std.proofs.lemmas.Bool.Decides.{nat_tests}
 use Rattle.std.proofs.lemmas.Grind.{common_steps}
-use Rattle.std.proofs.lemmas.Bool.{cases_lt, le-leb, lt-leb, cond-true, cond-false}
+use Rattle.std.proofs.lemmas.Bool.{cases_lt}
 use Rattle.modes.specs.declared.family.Family.{Family}
 use Rattle.modes.specs.declared.family.Family.TheVariants.{Codebook, Chaining, CipherFeedback, OutputFeedback}
-use Rattle.modes.specs.Bits.{leftmost, shifted}
+use Rattle.modes.specs.Bits.{leftmost}
 use Rattle.modes.specs.Table.{row}
 use Rattle.modes.specs.Results.{before, register, stream, output, ciphered, plain, enciphered, deciphered}
 use Rattle.modes.specs.Equations.{unit, UpTo, back, input, Enciphers, Deciphers, Equations}
 use Rattle.modes.proofs.Xor.{unmasked}
 use Rattle.modes.proofs.Grown.{length_grown, grown_at}
 use Rattle.modes.proofs.Fits.{Fit, fit}
-use Rattle.modes.proofs.Registers.{before_early, before_late, register_early, register_late}
+use Rattle.modes.proofs.Registers.{before_late, register_early, register_late}
 use Rattle.modes.proofs.Ciphered.{enciphered_at, enciphered_only}
 
 -- from places to numbers
@@ -23,12 +23,6 @@ up_to n Q h zero l l' = absurd (omega arith)
 up_to n Q h (suc k) l l' = h k (omega arith)
 
 -- the unit at the distance before unit i
-back_early : (δ : ℕ) (IV X : ℕ → ℕ) (i : ℕ) → i ≤ δ → back δ IV X i ≡ IV i
-back_early δ IV X i l = grind (arith, nat_tests)
-
-back_late : (δ : ℕ) (IV X : ℕ → ℕ) (k j : ℕ) → δ + j ≡ k → back δ IV X (suc k) ≡ X (suc j)
-back_late δ IV X k j e = grind (arith, nat_tests)
-
 back_is_before : (δ : ℕ) (ivs xs : List ℕ) (k : ℕ) → length ivs ≡ δ → before ivs xs k ≡ back δ (unit ivs) (unit xs) (suc k)
 back_is_before δ ivs xs k len = grind (arith, common_steps, nat_tests)
 
@@ -43,33 +37,27 @@ module _ (w δ : ℕ) (ivs cs : List ℕ) (len : length ivs ≡ δ) (pos : 0 < �
   Obeys i = inputs w ivs cs i ≡ input w δ (unit ivs) (unit cs) (inputs w ivs cs) i
 
   input_early : (k : ℕ) → k < δ → Obeys (suc k)
-  input_early k l = register_early w ivs cs k (omega arith) ∙ sym (cond-true (leb (suc k) δ) _ _ (le-leb (suc k) δ (omega arith)))
+  input_early k l = grind (arith, nat_tests, register_early w ivs cs k)
 
   input_late : (k : ℕ) → δ ≤ k → Obeys (suc k)
   input_late zero l = absurd (omega arith)
   input_late (suc k) l =
-      let e : length ivs + (suc k - δ) ≡ suc k = omega arith in
       let i : suc (suc k) - 1 ≡ suc k = omega arith in
       let j : suc (suc k) - δ ≡ suc (suc k - δ) = omega arith in
-      register_late w ivs cs k (omega arith)
-      ∙ ap (shifted w (register w ivs cs k)) (before_late ivs cs (suc k) (suc k - δ) e ∙ ap (unit cs) (sym j))
-      ∙ ap (λ x. shifted w (inputs w ivs cs x) (unit cs (suc (suc k) - δ))) (sym i)
-      ∙ sym (cond-false (leb (suc (suc k)) δ) _ _ (lt-leb (suc (suc k)) δ (omega arith)))
+      let r = register_late w ivs cs k (omega arith) in
+      let b = before_late ivs cs (suc k) (suc k - δ) (omega arith) in
+      rw (i, j, r, b) (grind (arith, nat_tests))
 
   inputs_obey : (n : ℕ) → UpTo n Obeys
   inputs_obey n = up_to n Obeys (λ k _. ⊎_elim (input_early k) (input_late k) (cases_lt k δ))
 
   -- no other input blocks obey
   inputs_only : (I : ℕ → ℕ) (n : ℕ) → UpTo n (λ i. I i ≡ input w δ (unit ivs) (unit cs) I i) → (k : ℕ) → k < n → I (suc k) ≡ register w ivs cs k
-  inputs_only I n h zero l =
-      h 1 (omega arith) (omega arith) ∙ cond-true (leb 1 δ) _ _ (le-leb 1 δ (omega arith)) ∙ sym (register_early w ivs cs 0 (omega arith))
+  inputs_only I n h zero l = grind (arith, nat_tests, h 1 (omega arith) (omega arith), register_early w ivs cs 0)
   inputs_only I n h (suc k) l =
       let i : suc (suc k) - 1 ≡ suc k = omega arith in
-      let last : I (suc (suc k) - 1) ≡ inputs w ivs cs (suc (suc k) - 1) =
-      ap I i ∙ inputs_only I n h k (omega arith) ∙ ap (inputs w ivs cs) (sym i) in
-      h (suc (suc k)) (omega arith) (omega arith)
-      ∙ ap (λ x. cond (leb (suc (suc k)) δ) (unit ivs (suc (suc k))) (shifted w x (unit cs (suc (suc k) - δ)))) last
-      ∙ sym (inputs_obey (suc (suc k)) (suc (suc k)) (omega arith) (omega arith))
+      let last : I (suc (suc k) - 1) ≡ inputs w ivs cs (suc (suc k) - 1) = ap I i ∙ inputs_only I n h k (omega arith) ∙ ap (inputs w ivs cs) (sym i) in
+      cc (h (suc (suc k)) (omega arith) (omega arith), inputs_obey (suc (suc k)) (suc (suc k)) (omega arith) (omega arith))
 
 abbrev outputs : (ℕ → ℕ) → List ℕ → ℕ → ℕ
 outputs F ivs zero = 0
@@ -79,29 +67,18 @@ outputs_obey : (F : ℕ → ℕ) (δ : ℕ) (ivs : List ℕ) (n : ℕ) → lengt
     → UpTo n (λ i. outputs F ivs i ≡ F (back δ (unit ivs) (outputs F ivs) i))
 outputs_obey F δ ivs n len pos =
     up_to n _
-    (λ k _. ap F
-    (⊎_elim
-    (λ l. before_early ivs (stream F ivs k) k (omega arith) ∙ sym (back_early δ (unit ivs) (outputs F ivs) (suc k) (omega arith)))
-    (λ l. let e : δ + (k - δ) ≡ k = omega arith in
-    before_late ivs (stream F ivs k) k (k - δ) (omega arith)
-    ∙ grown_at (λ os i. F (before ivs os i)) k (k - δ) (omega arith)
-    ∙ sym (back_late δ (unit ivs) (outputs F ivs) k (k - δ) e))
-    (cases_lt k δ)))
+    (λ k _. let b : before ivs (stream F ivs k) k ≡ back δ (unit ivs) (outputs F ivs) (suc k) =
+    grind (arith, common_steps, nat_tests, grown_at (λ os i. F (before ivs os i)) k (k - δ)) in
+    ap F b)
 
 -- no other output blocks obey
 outputs_only : (F : ℕ → ℕ) (δ : ℕ) (ivs : List ℕ) (O : ℕ → ℕ) (n : ℕ) → length ivs ≡ δ → 0 < δ → UpTo n (λ i. O i ≡ F (back δ (unit ivs) O i))
     → (k : ℕ) → k ≤ n → (i : ℕ) → i < k → O (suc i) ≡ output F ivs i
 outputs_only F δ ivs O n len pos h zero hk i l = absurd (omega arith)
 outputs_only F δ ivs O n len pos h (suc k) hk i l =
-    h (suc i) (omega arith) (omega arith)
-    ∙ ap F
-    (⊎_elim
-    (λ a. back_early δ (unit ivs) O (suc i) (omega arith) ∙ sym (back_early δ (unit ivs) (outputs F ivs) (suc i) (omega arith)))
-    (λ a. let e : δ + (i - δ) ≡ i = omega arith in
-    back_late δ (unit ivs) O i (i - δ) e ∙ outputs_only F δ ivs O n len pos h k (omega arith) (i - δ) (omega arith)
-    ∙ sym (back_late δ (unit ivs) (outputs F ivs) i (i - δ) e))
-    (cases_lt i δ))
-    ∙ sym (outputs_obey F δ ivs (suc i) len pos (suc i) (omega arith) (omega arith))
+    let far = λ (d : δ ≤ i). outputs_only F δ ivs O n len pos h k (omega arith) (i - δ) (omega arith) in
+    let b : back δ (unit ivs) O (suc i) ≡ back δ (unit ivs) (outputs F ivs) (suc i) = grind (arith, nat_tests, far) in
+    h (suc i) (omega arith) (omega arith) ∙ ap F b ∙ sym (outputs_obey F δ ivs (suc i) len pos (suc i) (omega arith) (omega arith))
 
 -- the equations of one mode, place by place
 

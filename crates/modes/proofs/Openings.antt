@@ -1,14 +1,13 @@
 -- Every order answers some code and bytes, and an order is what it says.
-use Rattle.std.proofs.Common.{◌≡◌, ℕ, zero, suc, ◌+◌, ◌*◌, ◌/◌, ◌%◌, ◌^◌, ◌<◌, true, eqb, List, [], ◌∷◌, map, length, get_or, Ok, sym, refl, ap, ◌∙◌, arith, lit<}
+use Rattle.std.proofs.Common.{◌≡◌, ℕ, zero, suc, ◌+◌, ◌*◌, ◌/◌, ◌%◌, ◌^◌, ◌<◌, true, eqb, List, [], ◌∷◌, map, length, get_or, Ok, refl, ap, ◌∙◌, arith, lit<}
 use mathlib.Core.HLevel.{is_prop→PathP}
 use mathlib.Core.Bool.{Bool-set}
 use Rattle.std.proofs.lemmas.Bool.Decides.{nat_tests}
-use Rattle.std.proofs.lemmas.Bool.{eqb-true, eq-eqb, and_parts, cond-true}
+use Rattle.std.proofs.lemmas.Bool.{eqb-true, and_parts}
 use Rattle.modes.specs.declared.mode.Mode.{Mode}
 use Rattle.modes.specs.declared.values.InitialValues.{InitialValues}
 use Rattle.modes.specs.declared.values.InitialValues.TheVariants.{Empty, One, Three}
 use Rattle.modes.specs.Table.{row}
-use Rattle.cipher.specs.Bytes.{block_at}
 use Rattle.modes.specs.Values.{listed, blocks_in, are_blocks, suits, Units, Begins}
 use Rattle.modes.proofs.Fits.{codes_name_modes, code_is_byte}
 use Rattle.modes.specs.Orders.{opened, opened_by, OrdersAreAnswers, SameOpeningSameOrder}
@@ -60,21 +59,21 @@ blocks_in_bytes values e = inside values (each_is_block (listed values) e)
   where
     inside : (values : InitialValues) → Units 64 (listed values) → blocks_in (length (listed values)) (bytes_of values) ≡ listed values
     inside Empty h = refl
-    inside (One a) h = ap (λ x. x ∷ []) (eight_digits a (h 0 (lit< tt)))
+    inside (One a) h = let ea = eight_digits a (h 0 (lit< tt)) in cc
     inside (Three a b c) h =
         let ea = eight_digits a (h 0 (lit< tt)) in
         let eb = eight_digits b (h 1 (lit< tt)) in
         let ec = eight_digits c (h 2 (lit< tt)) in
-        ap (λ x. x ∷ block_at (bytes_of (Three a b c)) 8 ∷ block_at (bytes_of (Three a b c)) 16 ∷ []) ea
-        ∙ ap (λ x. a ∷ x ∷ block_at (bytes_of (Three a b c)) 16 ∷ []) eb ∙ ap (λ x. a ∷ b ∷ x ∷ []) ec
+        cc
 
 opened_by_bytes : (m : Mode) (values : InitialValues) → suits m values ≡ true
     → opened m (bytes_of values) ≡ Ok (record { mode = m; values = listed values })
 opened_by_bytes m values e =
     let p = and_parts (eqb (length (listed values)) (row m).values) (are_blocks (listed values)) e in
     let n : length (listed values) ≡ (row m).values = eqb-true _ _ p.0 in
-    cond-true _ _ _ (eq-eqb (length (bytes_of values)) (8 * (row m).values) (length_bytes values ∙ ap (λ x. 8 * x) n))
-    ∙ ap (λ x. Ok (record { mode = m; values = x })) (ap (λ x. blocks_in x (bytes_of values)) (sym n) ∙ blocks_in_bytes values p.1)
+    let len = length_bytes values in
+    let same = blocks_in_bytes values p.1 in
+    rw (← n) (grind (arith, nat_tests))
 
 pub orders_are_answers : OrdersAreAnswers
 orders_are_answers o = (

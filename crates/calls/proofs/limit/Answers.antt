@@ -1,6 +1,5 @@
-use Rattle.std.proofs.Common.{rules}
 use Rattle.calls.proofs.Whole.{theorem}
 use Rattle.calls.proofs.limit.Goals as goal
 
-pub returns : goal.returns
-returns c = record { value = search rules; theorem = theorem }
+pub returns-clause-theorem : goal.returns-clause-theorem
+returns-clause-theorem c = theorem
