@@ -27,7 +27,7 @@ impl Model for Row {
 }
 
 impl Row {
-    // Four numbers in their order, for with named fields a row takes six lines, and the table could not be read as one.
+    // The figures in their order: with named fields a row would take six lines, and the table could not be read as one.
     pub(crate) fn new(code: u8, family: Family, width: usize, values: usize) -> Self
         requires { (0 < width) × (width ≤ 64) × (values ≤ 3) }
         ensures { result ≡ record { code = code; family = family; width = width; values = values } }

@@ -15,6 +15,7 @@ impl Order {
         ensures { answered result ≡ checked code initial_values.now }
     {
         let mode = Mode::try_from(code)?;
+        // A chain of filter, ok_or and ? has as many lines, and its test stands away from the order that needs it.
         match InitialValues::read(initial_values) {
             Some(values) if values.count() == mode.initial_values() => Ok(Order { mode, values }),
             _ => Err(Refusal::InitialValueLength(initial_values.len())),
