@@ -7,8 +7,15 @@ ghost use Rattle.engines.specs.Depths.{the_greatest_depth};
 use super::work::Work;
 use cipher::Block;
 
-/// No engine is deeper. A theorem in the specs ties it to the number that proofs know.
+/// No engine is deeper.
 pub const GREATEST_DEPTH: usize = 8;
+
+/// The same, as proofs know it. A constant has no contract that could say so, so a function stands beside it.
+pub fn greatest_depth() -> usize
+    ensures { result ≡ the_greatest_depth }
+{
+    GREATEST_DEPTH
+}
 
 /// An engine works blocks in cycles. It means two functions on blocks that undo each other, and a row of places, one fewer
 /// than its depth, each empty or holding a block due. It never refuses, and its functions and depth never change.

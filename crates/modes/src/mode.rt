@@ -1,11 +1,8 @@
 //! The eleven modes and the table of their figures.
-ghost use Rattle.std.specs.Prelude.{◌≡◌, ◌^◌, ◌<◌, ◌≤◌, Some, ◌≢◌, nat_lt, ℕ, List};
+ghost use Rattle.std.specs.Prelude.{◌≡◌, ◌^◌, ◌<◌, ◌≤◌, Some, ◌≢◌, nat_lt};
 ghost use Rattle.std.specs.Fmt.{styled_text};
-ghost use Rattle.std.specs.Iterator.{IsFinite, AlwaysYields};
-ghost use Rattle.std.specs.Iterator.Runs.{CountFits};
 ghost use Rattle.modes.specs.Table.{row, with_code, mode_of_code, named, distance_of, memory_of, reach_of, CodesNameModes};
 ghost use Rattle.modes.specs.Bits.{leftmost, shifted};
-ghost use Rattle.modes.specs.Widths.{first_wide};
 ghost use Rattle.modes.specs.Equations.{Equations};
 ghost use Rattle.modes.specs.Laws.{UnitsGiveUnits, Prefix, Restoring, Recovery, Damage};
 ghost use Rattle.modes.specs.Schedule.{Schedule};
@@ -168,16 +165,6 @@ impl Mode {
     {
         let width = self.width();
         width >= 64 || unit >> width == 0
-    }
-
-    /// The index, from 0, of the first of some units that is too wide for the mode.
-    pub fn first_too_wide<I: Iterator<Item = u64> + Drop>(self, mut units: I) -> Option<usize>
-        requires can { I.can_next units }
-        requires finite { IsFinite (I.remaining units) }
-        requires fits { CountFits I.next_gives I.remaining 0 units }
-        ensures { (us : List ℕ) → AlwaysYields I.next_gives (λ u. u) units us → result ≡ first_wide (row self).width 0 us }
-    {
-        units.position(|unit| !self.admits(unit))
     }
 
     /// The leftmost bits of a block, as many as a unit has.

@@ -19,5 +19,9 @@ pub fn substitution_row(row: usize) -> Option<&'static [u8]>
     ensures value { option_map (λ s. s.now) result ≡ (if nat_lt row 32 then Some (row_of row) else None) }
     ensures once { row < 32 → EachOnce (row_of row) }
 {
-    Some(S_BOXES.get(row)?.as_slice())
+    if row < 32 {
+        Some(&S_BOXES[row * 16..row * 16 + 16])
+    } else {
+        None
+    }
 }

@@ -14,7 +14,7 @@ fn substitute(number: usize, six: usize) -> u8
     ensures value { result ≡ s_box number six }
     ensures four { result < 16 }
 {
-    S_BOXES[number * 4 + six / 32 * 2 + six % 2][six / 2 % 16]
+    S_BOXES[number * 64 + (six / 32 * 2 + six % 2) * 16 + six / 2 % 16]
 }
 
 /// Four bits of box `number` in their place among the 32, permuted.
