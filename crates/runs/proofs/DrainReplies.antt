@@ -16,7 +16,6 @@ use Rattle.calls.specs.Calls.{Answer, gave, refused, Calls, drained, order_of, w
 use Rattle.calls.specs.Due.{distance_in, inside_in, results_in, refusal_to_drain, due_drain, cycles_passed, Follows}
 use Rattle.calls.proofs.Stretching.{inside_most}
 use Rattle.runs.specs.declared.frame.Frame.{Frame}
-use Rattle.runs.specs.Rings.{items}
 use Rattle.runs.specs.Views.{view}
 use Rattle.runs.specs.Steps.{chained, shift, mask_at, View}
 use Rattle.runs.specs.Standing.{Registered, chain_end, SameEngine, Standing}
@@ -38,18 +37,18 @@ pub drain_accepts : (n room : ℕ) → n ≤ room → (otherwise : Answer) → r
 drain_accepts n room l otherwise = cond-false _ _ _ (le-ltb room n l)
 
 refusal_told : (mach : Machine) (f : Frame) (calls : Calls true) → Stands mach f calls → (room : ℕ) (otherwise : Answer)
-    → refusal_to_drain (inside_in mach.depth calls) room otherwise ≡ refusal_to_drain (length (items f.pending)) room otherwise
+    → refusal_to_drain (inside_in mach.depth calls) room otherwise ≡ refusal_to_drain (length f.pending.items) room otherwise
 refusal_told mach f calls stands room otherwise = ap (λ n. refusal_to_drain n room otherwise) (sym (inside_told mach f calls stands))
 
 -- a refusal alters nothing
-pub drain_refused : (mach : Machine) (f : Frame) (xs : List ℕ) (k : ℕ) → k ≡ length (items f.pending) → length xs < k
+pub drain_refused : (mach : Machine) (f : Frame) (xs : List ℕ) (k : ℕ) → k ≡ length f.pending.items → length xs < k
     → Drained mach mach f f xs xs (Err (OutputLength k))
 drain_refused mach f xs k is small = λ calls stands.
     let w = stands.at_work in
     let room = length xs in
     let e = OutputLength k in
     let due : due_drain mach.forward mach.inverse mach.depth calls room ≡ refused e =
-    refusal_told mach f calls stands room _ ∙ drain_refuses (length (items f.pending)) room k is small _ in (
+    refusal_told mach f calls stands room _ ∙ drain_refuses (length f.pending.items) room k is small _ in (
       subst (Answered xs xs (Err e)) (sym due) (refl, refl),
       subst (λ a. Stands mach f (drained room a calls)) (sym due)
           (record {
@@ -63,13 +62,13 @@ abbrev results_due : Machine → Calls true → List ℕ
 results_due mach calls =
     results_in mach.forward mach.inverse calls (taken calls) (length (taken calls) - inside_in mach.depth calls) (length (taken calls))
 
-due_results : (mach : Machine) (f : Frame) (calls : Calls true) → Stands mach f calls → (room : ℕ) → length (items f.pending) ≤ room
+due_results : (mach : Machine) (f : Frame) (calls : Calls true) → Stands mach f calls → (room : ℕ) → length f.pending.items ≤ room
     → due_drain mach.forward mach.inverse mach.depth calls room ≡ gave (results_due mach calls)
 due_results mach f calls stands room large =
-    refusal_told mach f calls stands room _ ∙ drain_accepts (length (items f.pending)) room large _
+    refusal_told mach f calls stands room _ ∙ drain_accepts (length f.pending.items) room large _
 
 -- nor does a drain that finds nothing
-pub drain_none : (mach : Machine) (f : Frame) (xs : List ℕ) → length (items f.pending) ≡ 0 → Drained mach mach f f xs xs (Ok 0)
+pub drain_none : (mach : Machine) (f : Frame) (xs : List ℕ) → length f.pending.items ≡ 0 → Drained mach mach f f xs xs (Ok 0)
 drain_none mach f xs nothing = λ calls stands.
     let w = stands.at_work in
     let room = length xs in
@@ -180,8 +179,8 @@ module _ (mach : Machine) (places : List (Option ℕ)) (f f' : Frame) (calls : C
         };
       }
 
-pub drain_some : (mach mach' : Machine) (f f' : Frame) (xs ys : List ℕ) (n : ℕ) → SameEngine mach mach' → 0 < length (items f.pending)
-    → length (items f.pending) ≤ length xs → Idles mach mach' f f' (mach.depth - 1) 0 n xs ys → Drained mach mach' f f' xs ys (Ok n)
+pub drain_some : (mach mach' : Machine) (f f' : Frame) (xs ys : List ℕ) (n : ℕ) → SameEngine mach mach' → 0 < length f.pending.items
+    → length f.pending.items ≤ length xs → Idles mach mach' f f' (mach.depth - 1) 0 n xs ys → Drained mach mach' f f' xs ys (Ok n)
 drain_some mach mach' f f' xs ys n same some large idles = λ calls stands.
     let places = mach'.row in
     let room = length xs in

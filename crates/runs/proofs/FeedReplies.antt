@@ -15,7 +15,6 @@ use Rattle.calls.specs.Calls.{Answer, gave, refused, Calls, fed, order_of, way_o
 use Rattle.calls.specs.Due.{first_wide, distance_in, width_in, count_in, inside_in, results_in, refusal_to_feed, due_feed, cycles_passed, Follows}
 use Rattle.calls.proofs.Stretching.{inside_most, passed_more}
 use Rattle.runs.specs.declared.frame.Frame.{Frame}
-use Rattle.runs.specs.Rings.{items}
 use Rattle.runs.specs.Views.{view}
 use Rattle.runs.specs.Standing.{SameEngine, Standing}
 use Rattle.runs.specs.Stands.{units_earlier, cycles_earlier, out_in, Stands}
@@ -57,7 +56,7 @@ module _ (n w c : ℕ) (us : List ℕ) (room : ℕ) where
 -- the numbers that a run tells are those of its calls
 refusal_told : (mach : Machine) (f : Frame) (calls : Calls true) → Stands mach f calls → (us : List ℕ) (room : ℕ) (otherwise : Answer)
     → refusal_to_feed (inside_in mach.depth calls) (width_in calls) (count_in calls) us room otherwise
-    ≡ refusal_to_feed (length (items f.pending)) (row f.mode).width (f.before + f.taken) us room otherwise
+    ≡ refusal_to_feed (length f.pending.items) (row f.mode).width (f.before + f.taken) us room otherwise
 refusal_told mach f calls stands us room otherwise =
     sym
     (ap (λ n. refusal_to_feed n (row f.mode).width (f.before + f.taken) us room otherwise) (inside_told mach f calls stands)
@@ -66,7 +65,7 @@ refusal_told mach f calls stands us room otherwise =
 
 -- a refusal alters nothing
 pub feed_refused : (mach : Machine) (f : Frame) (us xs : List ℕ) (e : Refusal)
-    → Refuses (length (items f.pending)) (row f.mode).width (f.before + f.taken) us (length xs) e → Fed mach mach f f us xs xs (Err e)
+    → Refuses (length f.pending.items) (row f.mode).width (f.before + f.taken) us (length xs) e → Fed mach mach f f us xs xs (Err e)
 feed_refused mach f us xs e refuses = λ calls stands.
     let w = stands.at_work in
     let room = length xs in
@@ -150,7 +149,7 @@ module _ (mach : Machine) (places : List (Option ℕ)) (f f' : Frame) (calls : C
       }
 
 pub feed_taken : (mach mach' : Machine) (f f' : Frame) (us xs ys : List ℕ) (n : ℕ) → SameEngine mach mach'
-    → Accepts (length (items f.pending)) (row f.mode).width (f.before + f.taken) us (length xs)
+    → Accepts (length f.pending.items) (row f.mode).width (f.before + f.taken) us (length xs)
     → Pumps mach mach' f f' us (length us) n xs ys → Fed mach mach' f f' us xs ys (Ok n)
 feed_taken mach mach' f f' us xs ys n same accepts pumps = λ calls stands.
     let places = mach'.row in

@@ -1,4 +1,3 @@
-pub mod RingPlaces
 pub mod Chains
 pub mod UnitsOut
 pub mod Slots

@@ -17,7 +17,6 @@ use Rattle.calls.proofs.Counting.{cycles_add_up}
 use Rattle.calls.proofs.OpenRun.{balanced}
 use Rattle.calls.proofs.Stretching.{cycles_open, inside_most, passed_is_cost}
 use Rattle.runs.specs.declared.frame.Frame.{Frame}
-use Rattle.runs.specs.Rings.{items}
 use Rattle.runs.specs.Standing.{blocks}
 use Rattle.runs.specs.Stands.{Stands, told_by}
 use Rattle.runs.proofs.Waits.{inside_waits}
@@ -75,7 +74,7 @@ module _ (F G : ℕ → ℕ) (D : ℕ) (shallow : D ≤ the_greatest_depth) wher
       )
 
 module _ (mach : Machine) (f : Frame) (calls : Calls true) (stands : Stands mach f calls) where
-  pub inside_told : length (items f.pending) ≡ inside_in mach.depth calls
+  pub inside_told : length f.pending.items ≡ inside_in mach.depth calls
   inside_told =
       omega (arith, inside_waits mach f calls (taken calls) _ _ _ stands.at_work, inside_most mach.depth (distance_in calls) (stretch calls))
 
@@ -88,7 +87,7 @@ module _ (mach : Machine) (f : Frame) (calls : Calls true) (stands : Stands mach
   pub width_told : (row f.mode).width ≡ width_in calls
   width_told = ap (λ m. (row m).width) stands.at_work.mode
 
-  pub handed_out_told : f.taken - length (items f.pending) ≡ length (handed_out calls)
+  pub handed_out_told : f.taken - length f.pending.items ≡ length (handed_out calls)
   handed_out_told = omega (arith, inside_told, taken_told, balanced mach.forward mach.inverse mach.depth calls stands.follows)
 
   pub cycles_told : f.cycles ≡ cycles_passed mach.depth calls

@@ -7,7 +7,7 @@ use Rattle.modes.specs.declared.way.Way.{Way}
 use Rattle.modes.specs.Values.{listed}
 use Rattle.calls.specs.Calls.{Calls, order_of, way_of}
 use Rattle.runs.specs.declared.frame.Frame.{Frame}
-use Rattle.runs.specs.Rings.{one_if}
+use Rattle.runs.specs.Steps.{one_if}
 use Rattle.runs.specs.Views.{view, Kept}
 use Rattle.runs.specs.Standing.{SameEngine, Standing, Outcome, Cycled}
 use Rattle.runs.specs.Stands.{units_earlier, cycles_earlier, out_in, AtWork}

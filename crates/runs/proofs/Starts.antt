@@ -15,7 +15,6 @@ use Rattle.modes.specs.Values.{listed}
 use Rattle.modes.proofs.Openings.{suits_begins}
 use Rattle.calls.specs.Calls.{started}
 use Rattle.runs.specs.declared.frame.Frame.{Frame}
-use Rattle.runs.specs.Rings.{items}
 use Rattle.runs.specs.Steps.{chained_by, chained, result_at}
 use Rattle.runs.specs.Standing.{blocks, slot, Registered, chain_end}
 use Rattle.runs.specs.Stands.{Fresh, Started, Stands}
@@ -47,7 +46,7 @@ chain_end_none None = refl
 chain_end_none (Some δ) = refl
 
 pub started_by : (mach mach' : Machine) (count : ℕ) (order : Order) (way : Way) (f : Frame) → 1 ≤ mach.depth → mach.depth ≤ the_greatest_depth
-    → mach' ≡ emptied mach → Fresh f order way count → items f.chain ≡ listed order.values → Started mach mach' count order way f
+    → mach' ≡ emptied mach → Fresh f order way count → f.chain.items ≡ listed order.values → Started mach mach' count order way f
 started_by mach mach' count order way f deep shallow cleared fresh chain = λ calls rests.
     let m = order.mode in
     let ivs = listed order.values in

@@ -9,7 +9,6 @@ use Rattle.calls.specs.Stretches.{passed}
 use Rattle.calls.specs.Calls.{Calls, order_of, way_of}
 use Rattle.calls.specs.Due.{distance_in}
 use Rattle.runs.specs.declared.frame.Frame.{Frame}
-use Rattle.runs.specs.Rings.{items}
 use Rattle.runs.specs.Views.{view}
 use Rattle.runs.specs.Stands.{out_in, AtWork}
 use Rattle.runs.specs.Handing.{holding, Handing, Idles, Waits}
@@ -22,7 +21,7 @@ pub distance_is_in : (mach : Machine) (f : Frame) (calls : Calls true) (us : Lis
 distance_is_in mach f calls us s h t work = ap (λ m. distance_of m f.way) work.mode ∙ ap (distance_of (order_of calls).mode) work.way
 
 -- as many wait in memory as are inside
-pub inside_waits : (mach : Machine) (f : Frame) (calls : Calls true) (us : List ℕ) (s h t : ℕ) → AtWork mach f calls us s h t → length (items f.pending) ≡ s - h
+pub inside_waits : (mach : Machine) (f : Frame) (calls : Calls true) (us : List ℕ) (s h t : ℕ) → AtWork mach f calls us s h t → length f.pending.items ≡ s - h
 inside_waits mach f calls us s h t work = pending_size mach _ _ _ us work.sound _ s h t _ (view f) work.standing
 
 -- after n cycles of a wait the next unit's cycle is not past
@@ -55,7 +54,7 @@ distance_pos calls d e =
 module _ (mach mach' : Machine) (f f' : Frame) (n a b d : ℕ) (xs ys : List ℕ) (e : distance_of f.mode f.way ≡ Some d)
     (idle : Idles mach mach' f f' n a b xs ys) (early : Early mach f n a xs) where
   -- one more cycle of a wait for a partner that is inside
-  pub early_more : d ≤ length (items f'.pending) → Early mach f (n + 1) a xs
+  pub early_more : d ≤ length f'.pending.items → Early mach f (n + 1) a xs
   early_more many = λ calls us out s p.
       let q = idle calls us out s _ p in
       let w = q.at_work in
@@ -65,7 +64,7 @@ module _ (mach mach' : Machine) (f f' : Frame) (n a b d : ℕ) (xs ys : List ℕ
       omega arith
 
   -- the partner is out
-  pub waits_partner : length (items f'.pending) < d → Waits mach mach' f f' a b xs ys
+  pub waits_partner : length f'.pending.items < d → Waits mach mach' f f' a b xs ys
   waits_partner few = λ calls us out s p.
       let q = idle calls us out s _ p in
       let is : distance_in calls ≡ Some d = sym (distance_is_in mach f calls us s _ _ p.at_work) ∙ e in

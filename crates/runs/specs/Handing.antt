@@ -10,7 +10,6 @@ use Rattle.calls.specs.Stretches.{passed}
 use Rattle.calls.specs.Calls.{Answer, gave, refused, Calls, fed, drained, order_of, way_of, taken, stretch}
 use Rattle.calls.specs.Due.{distance_in, refusal_to_feed, refusal_to_drain, due_feed, due_drain}
 use Rattle.runs.specs.declared.frame.Frame.{Frame}
-use Rattle.runs.specs.Rings.{items}
 use Rattle.runs.specs.Views.{Kept}
 use Rattle.runs.specs.Steps.{unit_at}
 use Rattle.runs.specs.Standing.{SameEngine, Enters}
@@ -32,10 +31,10 @@ refusal_in (Err e) = refused e
 
 -- the refusal, or none, over what the run itself tells
 abbrev pub feed_refusal : Frame → List ℕ → ℕ → Answer
-feed_refusal f us room = refusal_to_feed (length (items f.pending)) (row f.mode).width (f.before + f.taken) us room (gave [])
+feed_refusal f us room = refusal_to_feed (length f.pending.items) (row f.mode).width (f.before + f.taken) us room (gave [])
 
 abbrev pub drain_refusal : Frame → ℕ → Answer
-drain_refusal f room = refusal_to_drain (length (items f.pending)) room (gave [])
+drain_refusal f room = refusal_to_drain (length f.pending.items) room (gave [])
 
 -- a feed answers what is due, whatever calls went before, and the run then stands for them and this one
 abbrev pub Fed : (mach mach' : Machine) (f f' : Frame) (us xs ys : List ℕ) → Result ℕ Refusal → Type 0
@@ -109,5 +108,5 @@ Same mach mach' f f' = SameEngine mach mach' × Kept f f'
 pub record Onward (mach mach' : Machine) (f f' : Frame) (given given' more : ℕ) : Type 0 where
   pub engine : SameEngine mach mach'
   pub kept : Kept f f'
-  pub room : given' + length (items f'.pending) ≤ given + length (items f.pending) + more
+  pub room : given' + length f'.pending.items ≤ given + length f.pending.items + more
   pub count : f'.taken ≡ f.taken + more

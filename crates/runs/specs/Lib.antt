@@ -1,4 +1,3 @@
-pub mod Rings
 pub mod Steps
 pub mod Views
 pub mod Standing

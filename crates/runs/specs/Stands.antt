@@ -10,7 +10,6 @@ use Rattle.calls.specs.Due.{distance_in, inside_in, cycles_passed, due_told, Fol
 use Rattle.calls.specs.Theorem.{Exact}
 use Rattle.runs.specs.declared.frame.Frame.{Frame}
 use Rattle.runs.specs.declared.run.Run.{Run}
-use Rattle.runs.specs.Rings.{items}
 use Rattle.runs.specs.Views.{view}
 use Rattle.runs.specs.Standing.{blocks, Sound, Standing}
 
@@ -50,7 +49,7 @@ pub record Fresh (f : Frame) (order : Order) (heads : Way) (count : ℕ) : Type 
   pub way : f.way ≡ heads
   pub before : f.before ≡ count
   pub taken : f.taken ≡ 0
-  pub inside : items f.pending ≡ []
+  pub inside : f.pending.items ≡ []
   pub cycles : f.cycles ≡ 0
 
 -- a started run stands for the calls on its cartridge, and this start
@@ -66,8 +65,8 @@ abbrev pub told_by : Machine → Frame → Told
 told_by mach f =
     record {
       taken = f.taken;
-      handed_out = f.taken - length (items f.pending);
-      inside = length (items f.pending);
+      handed_out = f.taken - length f.pending.items;
+      inside = length f.pending.items;
       cycles = f.cycles;
       in_row = blocks mach.row;
       count = f.before + f.taken;

@@ -61,6 +61,11 @@ chained_by F CipherFeedback w Enciphering ivs us n = enciphered F CipherFeedback
 chained_by F CipherFeedback w Deciphering ivs us n = take n us
 chained_by F OutputFeedback w way ivs us n = stream F ivs n
 
+-- how many: one or none
+abbrev pub one_if : Option ℕ → ℕ
+one_if None = 0
+one_if (Some x) = 1
+
 -- ---- over all units us of a run
 
 module _ (F G : ℕ → ℕ) (m : Mode) (way : Way) (ivs us : List ℕ) where

@@ -5,11 +5,10 @@ use Rattle.engines.specs.Depths.{the_greatest_depth}
 use Rattle.modes.specs.declared.mode.Mode.{Mode}
 use Rattle.modes.specs.declared.way.Way.{Way}
 use Rattle.runs.specs.declared.frame.Frame.{Frame}
-use Rattle.runs.specs.Rings.{items}
 use Rattle.runs.specs.Steps.{View, work_of, entered, unit_of, left}
 
 abbrev pub view : Frame → View
-view f = record { pending = items f.pending; chain = items f.chain; register = f.register; taken = f.taken; cycles = f.cycles }
+view f = record { pending = f.pending.items; chain = f.chain.items; register = f.register; taken = f.taken; cycles = f.cycles }
 
 -- a run's mode, way and first count never change
 abbrev pub Kept : Frame → Frame → Type 0

@@ -4,10 +4,14 @@ pub(crate) mod steps;
 ghost use Rattle.std.specs.Prelude.{◌+◌, ◌≤◌};
 ghost use Rattle.calls.specs.Limits.{unit_limit};
 
-use super::ring::Ring;
+use arrayvec::ArrayVec;
 use cipher::Block;
+use engines::engine::GREATEST_DEPTH;
 use modes::mode::Mode;
 use modes::way::Way;
+
+/// As many numbers as the deepest engine has cycles, the oldest first.
+pub(crate) type Queue = ArrayVec<u64, GREATEST_DEPTH>;
 
 /// Pending: what the result of each unit inside the engine is joined with as it comes out. Chain: the ciphered units or output
 /// blocks that coming units are joined with.
@@ -15,8 +19,8 @@ use modes::way::Way;
 pub(crate) struct Frame {
     pub(crate) mode: Mode,
     pub(crate) way: Way,
-    pub(crate) pending: Ring,
-    pub(crate) chain: Ring,
+    pub(crate) pending: Queue,
+    pub(crate) chain: Queue,
     pub(crate) register: Block,
     // the cartridge's count at the start of the run, and the units taken since
     pub(crate) before: usize,

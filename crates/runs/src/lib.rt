@@ -4,7 +4,6 @@
 pub mod cartridge;
 pub mod ends;
 mod frame;
-mod ring;
 pub mod run;
 #[cfg(test)]
 mod tests;

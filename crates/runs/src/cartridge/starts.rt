@@ -5,11 +5,9 @@ ghost use Rattle.engines.specs.Cycles.{emptied};
 ghost use Rattle.modes.specs.declared.way.Way.TheVariants.{Enciphering, Deciphering};
 ghost use Rattle.calls.specs.Limits.{unit_limit};
 ghost use Rattle.calls.specs.Calls.{new as first};
-ghost use Rattle.runs.specs.Rings.{items};
 ghost use Rattle.runs.specs.Stands.{Rests, Started, Fresh};
 
-use super::super::frame::Frame;
-use super::super::ring::Ring;
+use super::super::frame::{Frame, Queue};
 use super::super::run::heading::{Heading, Receiving, Sending};
 use super::super::run::{DecipheringRun, EncipheringRun, Run};
 use super::Cartridge;
@@ -19,10 +17,10 @@ use modes::order::Order;
 use modes::values::InitialValues;
 
 // The chain with which a run begins.
-fn first_links(values: InitialValues) -> Ring
-    ensures { items result ≡ listed values }
+fn first_links(values: InitialValues) -> Queue
+    ensures { result.items ≡ listed values }
 {
-    let mut chain = Ring::new();
+    let mut chain = Queue::new();
     match values {
         InitialValues::Empty => {}
         InitialValues::One(a) => chain.push(a),
@@ -66,7 +64,7 @@ impl<E: Engine> Cartridge<E> {
             frame: Frame {
                 mode: order.mode(),
                 way: heading.way_of(),
-                pending: Ring::new(),
+                pending: Queue::new(),
                 chain: first_links(order.initial_values()),
                 register: 0,
                 before: count,

@@ -1,11 +1,11 @@
 //! One unit's way into the engine and out of it.
 ghost use Rattle.std.specs.Prelude.{◌≡◌, ◌+◌, ◌<◌, ◌≤◌, length, Some};
+ghost use Rattle.engines.specs.Depths.{the_greatest_depth};
 ghost use Rattle.calls.specs.Limits.{unit_limit};
-ghost use Rattle.runs.specs.Rings.{items, one_if};
-ghost use Rattle.runs.specs.Steps.{input_by, mask_by, direction_by, register_by, fed_back_by, link_of, shift_from, counted};
+ghost use Rattle.runs.specs.Steps.{input_by, mask_by, direction_by, register_by, fed_back_by, link_of, shift_from, pushed, counted, one_if};
 ghost use Rattle.runs.specs.Views.{view, Kept, Admitted, Released};
 
-use super::Frame;
+use super::{Frame, Queue};
 use cipher::Block;
 use engines::work::{Direction, Work};
 use modes::family::Family;
@@ -64,6 +64,15 @@ fn fed_back(family: Family, block: Block, unit: u64) -> u64
     }
 }
 
+// Takes the oldest number out of the chain, and puts one in at its end. A chain of none stays so.
+fn pass(chain: &mut Queue, number: u64)
+    ensures { length chain.old.items < the_greatest_depth → chain.new.items ≡ pushed chain.old.items number }
+{
+    if chain.pop_at(0).is_some() {
+        let _ = chain.try_push(number);
+    }
+}
+
 impl Frame {
     /// What the chain has for the next unit.
     fn link(&self) -> u64
@@ -73,7 +82,7 @@ impl Frame {
             Some(_) => self.pending.len(),
             None => 0,
         };
-        self.chain.at(place)
+        self.chain.get(place).copied().unwrap_or(0)
     }
 
     /// The register for the next unit, where the chain has `link` for it.
@@ -92,16 +101,16 @@ impl Frame {
         requires { self.old.before + self.old.taken < unit_limit }
         ensures after { Admitted self.old.mode self.old.way (view self.old) (view self.new) (Some unit) (Some result) }
         ensures same { Kept self.old self.new }
-        ensures most { length (items self.new.pending) ≤ length (items self.old.pending) + 1 }
+        ensures most { length self.new.pending.items ≤ length self.old.pending.items + 1 }
         ensures count { self.new.taken ≡ self.old.taken + 1 }
     {
         let family = self.mode.family();
         let way = self.way;
         let link = self.link();
         let register = self.shifted(link);
-        self.pending.push(mask_for(family, way, unit, link));
+        let _ = self.pending.try_push(mask_for(family, way, unit, link));
         if self.mode.distance(way).is_none() {
-            self.chain.pass(unit);
+            pass(&mut self.chain, unit);
         }
         self.register = register_after(family, self.register, register);
         self.taken += 1;
@@ -115,17 +124,17 @@ impl Frame {
     fn leave(&mut self, block: Block) -> Option<u64>
         ensures after { Released self.old.mode self.old.way (view self.old) (view self.new) (Some block) result }
         ensures same { Kept self.old self.new }
-        ensures most { length (items self.new.pending) + one_if result ≤ length (items self.old.pending) }
+        ensures most { length self.new.pending.items + one_if result ≤ length self.old.pending.items }
         ensures count { self.new.taken ≡ self.old.taken }
     {
         let mode = self.mode;
         let way = self.way;
-        match self.pending.pop() {
+        match self.pending.pop_at(0) {
             None => None,
             Some(mask) => {
                 let unit = mode.leftmost(block) ^ mask;
                 if mode.distance(way).is_some() {
-                    self.chain.pass(fed_back(mode.family(), block, unit));
+                    pass(&mut self.chain, fed_back(mode.family(), block, unit));
                 }
                 Some(unit)
             }
@@ -145,7 +154,7 @@ impl Frame {
         requires { self.old.before + self.old.taken + one_if unit ≤ unit_limit }
         ensures after { Admitted self.old.mode self.old.way (view self.old) (view self.new) unit result }
         ensures same { Kept self.old self.new }
-        ensures most { length (items self.new.pending) ≤ length (items self.old.pending) + one_if unit }
+        ensures most { length self.new.pending.items ≤ length self.old.pending.items + one_if unit }
         ensures count { self.new.taken ≡ self.old.taken + one_if unit }
     {
         match unit {
@@ -158,7 +167,7 @@ impl Frame {
     pub(crate) fn release(&mut self, answer: Option<Block>) -> Option<u64>
         ensures after { Released self.old.mode self.old.way (view self.old) (view self.new) answer result }
         ensures same { Kept self.old self.new }
-        ensures most { length (items self.new.pending) + one_if result ≤ length (items self.old.pending) }
+        ensures most { length self.new.pending.items + one_if result ≤ length self.old.pending.items }
         ensures count { self.new.taken ≡ self.old.taken }
     {
         match answer {

@@ -1,6 +1,5 @@
 //! Draining a run.
 ghost use Rattle.std.specs.Prelude.{◌≡◌, ◌≤◌, length, IfOk, OnErr};
-ghost use Rattle.runs.specs.Rings.{items};
 ghost use Rattle.runs.specs.Stands.{of_run};
 ghost use Rattle.runs.specs.Handing.{Drained, drain_refusal, refusal_in, Same};
 
@@ -16,7 +15,7 @@ impl<E: Engine, W> Run<E, W> {
         ensures refusal { refusal_in result ≡ drain_refusal self.old.frame (length out.old) }
         ensures within { IfOk result (λ n. n ≤ length out.old) }
         ensures unaltered { OnErr result ((self.new ≡ self.old) × (out.new ≡ out.old)) }
-        ensures idle { length (items self.old.frame.pending) ≡ 0 → (self.new ≡ self.old) × (out.new ≡ out.old) }
+        ensures idle { length self.old.frame.pending.items ≡ 0 → (self.new ≡ self.old) × (out.new ≡ out.old) }
         ensures same { of_run Same E.Engine.machine self.old self.new }
     {
         let inside = self.frame.pending.len();

@@ -3,7 +3,6 @@ ghost use Rattle.std.specs.Prelude.{◌≡◌, ◌+◌, ◌^◌, ◌≤◌, leng
 ghost use Rattle.modes.specs.Table.{row};
 ghost use Rattle.calls.specs.Due.{first_wide};
 ghost use Rattle.calls.specs.Limits.{unit_limit};
-ghost use Rattle.runs.specs.Rings.{items};
 ghost use Rattle.runs.specs.Stands.{of_run};
 ghost use Rattle.runs.specs.Handing.{Fed, feed_refusal, refusal_in, Pumps, Onward, Same};
 
@@ -36,7 +35,7 @@ fn first_too_wide(mode: Mode, units: &[u64]) -> Option<usize>
 impl<E: Engine, W> Run<E, W> {
     /// Each unit enters in its cycle, and what comes out is written.
     fn pump(&mut self, units: &[u64], out: &mut [u64]) -> usize
-        requires room { length (items self.old.frame.pending) + length units.now ≤ length out.old }
+        requires room { length self.old.frame.pending.items + length units.now ≤ length out.old }
         requires limit { self.old.frame.before + self.old.frame.taken + length units.now ≤ unit_limit }
         ensures pumped { of_run Pumps E.Engine.machine self.old self.new units.now (length units.now) result out.old out.new }
         ensures onward { of_run Onward E.Engine.machine self.old self.new 0 result (length units.now) }

@@ -1,7 +1,7 @@
 //! One cycle of a run.
 ghost use Rattle.std.specs.Prelude.{◌≡◌, ◌+◌, ◌≤◌, length};
 ghost use Rattle.calls.specs.Limits.{unit_limit};
-ghost use Rattle.runs.specs.Rings.{items, one_if};
+ghost use Rattle.runs.specs.Steps.{one_if};
 ghost use Rattle.runs.specs.Views.{view, Kept};
 ghost use Rattle.runs.specs.Standing.{SameEngine, Cycled};
 
@@ -14,7 +14,7 @@ impl<E: Engine, W> Run<E, W> {
         requires { self.old.frame.before + self.old.frame.taken + one_if unit ≤ unit_limit }
         ensures cycled { Cycled (E.Engine.machine self.old.engine) (E.Engine.machine self.new.engine) self.old.frame.mode self.old.frame.way (view self.old.frame) (view self.new.frame) unit result }
         ensures same { SameEngine (E.Engine.machine self.old.engine) (E.Engine.machine self.new.engine) × Kept self.old.frame self.new.frame }
-        ensures most { length (items self.new.frame.pending) + one_if result ≤ length (items self.old.frame.pending) + one_if unit }
+        ensures most { length self.new.frame.pending.items + one_if result ≤ length self.old.frame.pending.items + one_if unit }
         ensures count { self.new.frame.taken ≡ self.old.frame.taken + one_if unit }
     {
         let input = self.frame.admit(unit);

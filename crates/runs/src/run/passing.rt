@@ -1,7 +1,7 @@
 //! Cycles one after the other, and the units that come out in them.
 ghost use Rattle.std.specs.Prelude.{◌≡◌, ◌+◌, ◌-◌, ◌≤◌, length};
 ghost use Rattle.calls.specs.Limits.{unit_limit};
-ghost use Rattle.runs.specs.Rings.{items, one_if};
+ghost use Rattle.runs.specs.Steps.{one_if};
 ghost use Rattle.runs.specs.Stands.{of_run};
 ghost use Rattle.runs.specs.Handing.{written, Passes, Idles, Waits, Onward};
 
@@ -27,7 +27,7 @@ impl<E: Engine, W> Run<E, W> {
     /// One cycle, with a unit or none. What comes out is written behind the `given` units before it; says how many there are then.
     pub(crate) fn pass(&mut self, unit: Option<u64>, out: &mut [u64], given: usize) -> usize
         requires limit { self.old.frame.before + self.old.frame.taken + one_if unit ≤ unit_limit }
-        requires room { given + length (items self.old.frame.pending) + one_if unit ≤ length out.old }
+        requires room { given + length self.old.frame.pending.items + one_if unit ≤ length out.old }
         ensures passed { of_run Passes E.Engine.machine self.old self.new unit given result out.old out.new }
         ensures onward { of_run Onward E.Engine.machine self.old self.new given result (one_if unit) }
     {
@@ -37,7 +37,7 @@ impl<E: Engine, W> Run<E, W> {
 
     /// Empty cycles until all that was inside is out, one fewer than the engine is deep.
     pub(crate) fn empty(&mut self, out: &mut [u64]) -> usize
-        requires { length (items self.old.frame.pending) ≤ length out.old }
+        requires { length self.old.frame.pending.items ≤ length out.old }
         ensures emptied { of_run Idles E.Engine.machine self.old self.new ((E.Engine.machine self.old.engine).depth - 1) 0 result out.old out.new }
         ensures onward { of_run Onward E.Engine.machine self.old self.new 0 result 0 }
     {
@@ -51,7 +51,7 @@ impl<E: Engine, W> Run<E, W> {
 
     /// Empty cycles until the result at the next unit's distance is out, which takes fewer than the engine is deep.
     pub(crate) fn wait(&mut self, out: &mut [u64], mut given: usize) -> usize
-        requires { given + length (items self.old.frame.pending) ≤ length out.old }
+        requires { given + length self.old.frame.pending.items ≤ length out.old }
         ensures waited { of_run Waits E.Engine.machine self.old self.new given result out.old out.new }
         ensures onward { of_run Onward E.Engine.machine self.old self.new given result 0 }
     {

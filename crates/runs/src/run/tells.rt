@@ -1,6 +1,5 @@
 //! What a run tells.
 ghost use Rattle.std.specs.Prelude.{◌≡◌, ◌-◌, length};
-ghost use Rattle.runs.specs.Rings.{items};
 ghost use Rattle.runs.specs.Standing.{blocks};
 ghost use Rattle.runs.specs.Stands.{Tells};
 
@@ -18,7 +17,7 @@ impl<E: Engine, W> Run<E, W> {
 
     /// How many of them it handed out.
     pub fn units_handed_out(&self) -> usize
-        ensures value { result ≡ self.now.frame.taken - length (items self.now.frame.pending) }
+        ensures value { result ≡ self.now.frame.taken - length self.now.frame.pending.items }
         ensures due { Tells (E.Engine.machine self.now.engine) self.now.frame (λ told. told.handed_out) result }
     {
         self.units_taken().saturating_sub(self.units_inside())
@@ -26,7 +25,7 @@ impl<E: Engine, W> Run<E, W> {
 
     /// How many are in the engine: the blocks in its row.
     pub fn units_inside(&self) -> usize
-        ensures value { result ≡ length (items self.now.frame.pending) }
+        ensures value { result ≡ length self.now.frame.pending.items }
         ensures due { Tells (E.Engine.machine self.now.engine) self.now.frame (λ told. told.inside) result }
         ensures row { Tells (E.Engine.machine self.now.engine) self.now.frame (λ _. blocks (E.Engine.machine self.now.engine).row) result }
     {

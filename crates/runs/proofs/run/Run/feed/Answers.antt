@@ -1,7 +1,6 @@
 use Rattle.std.proofs.Common.{◌+◌, [], length, sym, refl, ap, arith}
 use Rattle.modes.specs.Table.{row}
 use Rattle.calls.specs.Calls.{gave}
-use Rattle.runs.specs.Rings.{items}
 use Rattle.runs.proofs.FeedReplies.{refuses_room, refuses_wide, refuses_many, accepts, feed_refused, feed_taken}
 use Rattle.runs.proofs.run.Run.feed.Goals as goal
 
@@ -11,7 +10,7 @@ returns-then-out-wanted g c =
     let f = run.frame in
     let us = c.args.units.now in
     let xs = c.args.out.now in
-    let no = refuses_room (length (items f.pending)) (row f.mode).width (f.before + f.taken) us (length xs) (c.len.result + length us)
+    let no = refuses_room (length f.pending.items) (row f.mode).width (f.before + f.taken) us (length xs) (c.len.result + length us)
     (ap (λ n. n + length us) c.len.ensures.value) c.if-out-wanted.true in
     record {
       answered = feed_refused (g.E.Engine.machine run.engine) f us xs _ no;
@@ -28,7 +27,7 @@ returns-in-Some g c =
     let f = run.frame in
     let us = c.args.units.now in
     let xs = c.args.out.now in
-    let no = refuses_wide (length (items f.pending)) (row f.mode).width (f.before + f.taken) us (length xs)
+    let no = refuses_wide (length f.pending.items) (row f.mode).width (f.before + f.taken) us (length xs)
     (omega (arith, c.if-out-wanted.false, c.len.ensures.value)) c.in-Some.index (sym c.in-Some.ensures) in
     record {
       answered = feed_refused (g.E.Engine.machine run.engine) f us xs _ no;
@@ -46,7 +45,7 @@ returns-then-left-units g c =
     let us = c.args.units.now in
     let xs = c.args.out.now in
     let within = f.within in
-    let no = refuses_many (length (items f.pending)) (row f.mode).width (f.before + f.taken) us (length xs)
+    let no = refuses_many (length f.pending.items) (row f.mode).width (f.before + f.taken) us (length xs)
     (omega (arith, c.if-out-wanted.false, c.len.ensures.value)) (sym c.in_default.ensures) (omega (arith, c.if-left-units.true)) in
     record {
       answered = feed_refused (g.E.Engine.machine run.engine) f us xs _ no;
@@ -66,7 +65,7 @@ returns g c =
     let xs = c.args.out.now in
     let p = c.pump in
     let within = f.within in
-    let yes = accepts (length (items f.pending)) (row f.mode).width (f.before + f.taken) us (length xs)
+    let yes = accepts (length f.pending.items) (row f.mode).width (f.before + f.taken) us (length xs)
     (omega (arith, c.if-out-wanted.false, c.len.ensures.value)) (sym c.in_default.ensures) (omega (arith, c.if-left-units.false)) in
     record {
       answered = feed_taken (mach run.engine) (mach p.new.self.engine) f p.new.self.frame us xs p.new.out p.result

@@ -1,5 +1,5 @@
 use Rattle.std.proofs.Common.{◌+◌, ◌≤◌, length, arith}
-use Rattle.runs.specs.Rings.{one_if}
+use Rattle.runs.specs.Steps.{one_if}
 use Rattle.runs.proofs.Passes.{passes}
 use Rattle.runs.proofs.run.Run.pass.Goals as goal
 
