@@ -7,7 +7,6 @@ pub mod Onwards
 pub mod Outputs
 pub mod Inside
 pub mod Passes
-pub mod Wides
 pub mod Waits
 pub mod MoreUnits
 pub mod Pumps

@@ -1,7 +1,5 @@
 //! Feeding a run.
-ghost use Rattle.std.specs.Prelude.{◌≡◌, ◌+◌, ◌^◌, ◌≤◌, length, IfOk, OnErr, nat_lt};
-ghost use Rattle.modes.specs.Table.{row};
-ghost use Rattle.calls.specs.Due.{first_wide};
+ghost use Rattle.std.specs.Prelude.{◌≡◌, ◌+◌, ◌≤◌, length, IfOk, OnErr};
 ghost use Rattle.calls.specs.Limits.{unit_limit};
 ghost use Rattle.runs.specs.Stands.{of_run};
 ghost use Rattle.runs.specs.Handing.{Fed, feed_refusal, refusal_in, Pumps, Onward, Same};
@@ -9,28 +7,7 @@ ghost use Rattle.runs.specs.Handing.{Fed, feed_refusal, refusal_in, Pumps, Onwar
 use super::Run;
 use calls::UNIT_LIMIT;
 use engines::engine::Engine;
-use modes::mode::Mode;
 use refusals::Refusal;
-
-// Whether a unit has no more bits than the mode's width.
-fn is_narrow(mode: Mode, unit: u64) -> bool
-    ensures { result ≡ nat_lt unit (2 ^ (row mode).width) }
-{
-    let width = mode.width();
-    width >= 64 || unit >> width == 0
-}
-
-/// The index of the first unit that is too wide for the mode.
-fn first_too_wide(mode: Mode, units: &[u64]) -> Option<usize>
-    ensures { result ≡ first_wide (row mode).width 0 units.now }
-{
-    for (i, unit) in units.iter().enumerate() {
-        if !is_narrow(mode, *unit) {
-            return Some(i);
-        }
-    }
-    None
-}
 
 impl<E: Engine, W> Run<E, W> {
     /// Each unit enters in its cycle, and what comes out is written.
@@ -64,7 +41,7 @@ impl<E: Engine, W> Run<E, W> {
         if out.len() < wanted {
             return Err(Refusal::OutputLength(wanted));
         }
-        if let Some(index) = first_too_wide(self.frame.mode, units) {
+        if let Some(index) = self.frame.mode.first_too_wide(units.iter().copied()) {
             return Err(Refusal::UnitWidth(index));
         }
         let left = UNIT_LIMIT - (self.frame.before + self.frame.taken);
