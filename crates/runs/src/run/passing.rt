@@ -41,9 +41,8 @@ impl<E: Engine, W> Run<E, W> {
         ensures emptied { of_run Idles E.Engine.machine self.old self.new ((E.Engine.machine self.old.engine).depth - 1) 0 result out.old out.new }
         ensures onward { of_run Onward E.Engine.machine self.old self.new 0 result 0 }
     {
-        let depth = self.engine.depth_of();
         let mut given = 0;
-        for _ in 1..depth {
+        for _ in 1..E::DEPTH {
             given = self.pass(None, out, given);
         }
         given
@@ -58,7 +57,7 @@ impl<E: Engine, W> Run<E, W> {
         let Some(distance) = self.frame.mode.distance(self.frame.way) else {
             return given;
         };
-        for _ in 1..self.engine.depth_of() {
+        for _ in 1..E::DEPTH {
             if self.frame.pending.len() < distance {
                 return given;
             }

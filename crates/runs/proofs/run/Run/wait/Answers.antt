@@ -55,6 +55,6 @@ returns g c =
     let l = c.loop in
     record {
       waited = waits_all (mach run.engine) (mach l.self.engine) run.frame l.self.frame (l.counter - 1) c.args.given l.given c.in-Some.distance
-          c.args.out.now l.out (sym c.in-Some.ensures.value) l.invariant.1 l.invariant.2 (omega (arith, c.loop-test.false, c.depth_of-end.ensures));
+          c.args.out.now l.out (sym c.in-Some.ensures.value) l.invariant.1 l.invariant.2 (omega (arith, c.loop-test.false, c.DEPTH-end.ensures, g.met.E.Engine.deep run.engine));
       onward = l.invariant.0;
     }
