@@ -78,10 +78,8 @@ impl Frame {
     fn link(&self) -> u64
         ensures { result ≡ link_of self.now.mode self.now.way (view self.now) }
     {
-        let place = match self.mode.distance(self.way) {
-            Some(_) => self.pending.len(),
-            None => 0,
-        };
+        let distance = self.mode.distance(self.way);
+        let place = distance.map_or(0, |_| self.pending.len());
         self.chain.get(place).copied().unwrap_or(0)
     }
 
@@ -96,14 +94,15 @@ impl Frame {
         }
     }
 
-    /// Takes a unit in, and says what goes into the engine for it.
-    fn enter(&mut self, unit: u64) -> Work
-        requires { self.old.before + self.old.taken < unit_limit }
-        ensures after { Admitted self.old.mode self.old.way (view self.old) (view self.new) (Some unit) (Some result) }
+    /// Takes a unit or none in, and says what goes into the engine.
+    pub(crate) fn admit(&mut self, unit: Option<u64>) -> Option<Work>
+        requires { self.old.before + self.old.taken + one_if unit ≤ unit_limit }
+        ensures after { Admitted self.old.mode self.old.way (view self.old) (view self.new) unit result }
         ensures same { Kept self.old self.new }
-        ensures most { length self.new.pending.items ≤ length self.old.pending.items + 1 }
-        ensures count { self.new.taken ≡ self.old.taken + 1 }
+        ensures most { length self.new.pending.items ≤ length self.old.pending.items + one_if unit }
+        ensures count { self.new.taken ≡ self.old.taken + one_if unit }
     {
+        let unit = unit?;
         let family = self.mode.family();
         let way = self.way;
         let link = self.link();
@@ -114,31 +113,26 @@ impl Frame {
         }
         self.register = register_after(family, self.register, register);
         self.taken += 1;
-        Work {
+        Some(Work {
             block: input_for(family, way, unit, link, register),
             direction: direction_for(family, way),
-        }
+        })
     }
 
-    /// Makes the unit that is handed out from a result; none where no unit is waited for.
-    fn leave(&mut self, block: Block) -> Option<u64>
-        ensures after { Released self.old.mode self.old.way (view self.old) (view self.new) (Some block) result }
+    /// Makes the unit that is handed out from what came out of the engine; none where no unit is waited for.
+    pub(crate) fn release(&mut self, answer: Option<Block>) -> Option<u64>
+        ensures after { Released self.old.mode self.old.way (view self.old) (view self.new) answer result }
         ensures same { Kept self.old self.new }
         ensures most { length self.new.pending.items + one_if result ≤ length self.old.pending.items }
         ensures count { self.new.taken ≡ self.old.taken }
     {
-        let mode = self.mode;
-        let way = self.way;
-        match self.pending.pop_at(0) {
-            None => None,
-            Some(mask) => {
-                let unit = mode.leftmost(block) ^ mask;
-                if mode.distance(way).is_some() {
-                    pass(&mut self.chain, fed_back(mode.family(), block, unit));
-                }
-                Some(unit)
-            }
+        let block = answer?;
+        let mask = self.pending.pop_at(0)?;
+        let unit = self.mode.leftmost(block) ^ mask;
+        if self.mode.distance(self.way).is_some() {
+            pass(&mut self.chain, fed_back(self.mode.family(), block, unit));
         }
+        Some(unit)
     }
 
     /// Counts a cycle.
@@ -147,32 +141,5 @@ impl Frame {
         ensures same { Kept self.old self.new }
     {
         self.cycles = self.cycles.wrapping_add(1);
-    }
-
-    /// Takes a unit or none in, and says what goes into the engine.
-    pub(crate) fn admit(&mut self, unit: Option<u64>) -> Option<Work>
-        requires { self.old.before + self.old.taken + one_if unit ≤ unit_limit }
-        ensures after { Admitted self.old.mode self.old.way (view self.old) (view self.new) unit result }
-        ensures same { Kept self.old self.new }
-        ensures most { length self.new.pending.items ≤ length self.old.pending.items + one_if unit }
-        ensures count { self.new.taken ≡ self.old.taken + one_if unit }
-    {
-        match unit {
-            Some(u) => Some(self.enter(u)),
-            None => None,
-        }
-    }
-
-    /// Makes what is handed out from what came out of the engine.
-    pub(crate) fn release(&mut self, answer: Option<Block>) -> Option<u64>
-        ensures after { Released self.old.mode self.old.way (view self.old) (view self.new) answer result }
-        ensures same { Kept self.old self.new }
-        ensures most { length self.new.pending.items + one_if result ≤ length self.old.pending.items }
-        ensures count { self.new.taken ≡ self.old.taken }
-    {
-        match answer {
-            Some(block) => self.leave(block),
-            None => None,
-        }
     }
 }
