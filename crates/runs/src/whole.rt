@@ -1,7 +1,6 @@
 //! Whole runs: a new cartridge, a start, two feeds with a drain after each, and the closing.
 ghost use Rattle.std.specs.Prelude.{◌≡◌, ◌+◌, ◌≤◌, length, IfOk};
 ghost use Rattle.engines.specs.Cycles.{emptied};
-ghost use Rattle.modes.specs.declared.way.Way.TheVariants.{Enciphering, Deciphering};
 ghost use Rattle.runs.specs.Standing.{SameEngine};
 ghost use Rattle.runs.specs.Stands.{of_run};
 ghost use Rattle.runs.specs.Whole.{in_two};
@@ -9,6 +8,7 @@ ghost use Rattle.runs.specs.Emptying.{FedEmpty, FedTwice};
 
 use super::cartridge::Cartridge;
 use super::run::Run;
+use super::run::heading::Heading;
 use engines::engine::Engine;
 use modes::order::Order;
 use refusals::Refusal;
@@ -42,51 +42,23 @@ fn feed_twice<E: Engine, W>(
     Ok(run.cycles())
 }
 
-/// Closes the run behind two feeds, whatever they answered.
-fn finish<E: Engine, W: Drop>(
-    mut run: Run<E, W>,
-    first: &[u64],
-    second: &[u64],
-    out: &mut [u64],
-) -> (Cartridge<E>, Result<u64, Refusal>)
-    ensures { FedTwice (E.Engine.machine run.engine) (E.Engine.machine result.0.engine) run.frame result.0.count first.now second.now out.old out.new result.1 }
-{
-    let answer = feed_twice(&mut run, first, second, out);
-    (run.close(), answer)
-}
-
-/// Enciphers two lists of units in one run on a new cartridge, each with a drain behind it, and closes the run. Gives the cartridge
+/// Takes two lists of units through one run on a new cartridge, each with a drain behind it, and closes the run. Gives the cartridge
 /// back with the cycles, or with the refusal of the feed that was refused; no feed follows that one. What is handed out stands first
 /// in the output list, and its rest is untouched.
-pub fn encipher_in_two<E: Engine>(
+pub fn run_in_two<E: Engine, W: Heading + Drop>(
     engine: E,
     order: Order,
+    heading: W,
     first: &[u64],
     second: &[u64],
     out: &mut [u64],
 ) -> (Cartridge<E>, Result<u64, Refusal>)
-    ensures answer { result.1 ≡ (in_two (E.Engine.machine engine) order Enciphering first.now second.now out.old).answer }
-    ensures count { result.0.count ≡ (in_two (E.Engine.machine engine) order Enciphering first.now second.now out.old).count }
-    ensures output { out.new ≡ (in_two (E.Engine.machine engine) order Enciphering first.now second.now out.old).output }
+    ensures answer { result.1 ≡ (in_two (E.Engine.machine engine) order W.Heading.heads first.now second.now out.old).answer }
+    ensures count { result.0.count ≡ (in_two (E.Engine.machine engine) order W.Heading.heads first.now second.now out.old).count }
+    ensures output { out.new ≡ (in_two (E.Engine.machine engine) order W.Heading.heads first.now second.now out.old).output }
     ensures engine { E.Engine.machine result.0.engine ≡ emptied (E.Engine.machine engine) }
 {
-    let sender = Cartridge::new(engine).start_enciphering(order);
-    finish(sender, first, second, out)
-}
-
-/// The same, deciphering.
-pub fn decipher_in_two<E: Engine>(
-    engine: E,
-    order: Order,
-    first: &[u64],
-    second: &[u64],
-    out: &mut [u64],
-) -> (Cartridge<E>, Result<u64, Refusal>)
-    ensures answer { result.1 ≡ (in_two (E.Engine.machine engine) order Deciphering first.now second.now out.old).answer }
-    ensures count { result.0.count ≡ (in_two (E.Engine.machine engine) order Deciphering first.now second.now out.old).count }
-    ensures output { out.new ≡ (in_two (E.Engine.machine engine) order Deciphering first.now second.now out.old).output }
-    ensures engine { E.Engine.machine result.0.engine ≡ emptied (E.Engine.machine engine) }
-{
-    let receiver = Cartridge::new(engine).start_deciphering(order);
-    finish(receiver, first, second, out)
+    let mut run = Cartridge::new(engine).start(order, heading);
+    let answer = feed_twice(&mut run, first, second, out);
+    (run.close(), answer)
 }

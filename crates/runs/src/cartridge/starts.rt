@@ -51,8 +51,8 @@ impl<E: Engine> Cartridge<E> {
         self.count
     }
 
-    // Clocks the engine empty, throws away what comes out, and counts none of these cycles.
-    fn start<W: Heading>(self, order: Order, heading: W) -> Run<E, W>
+    /// Takes the cartridge into a run. The engine is clocked empty, what comes out is thrown away, and none of these cycles counts.
+    pub fn start<W: Heading>(self, order: Order, heading: W) -> Run<E, W>
         ensures started { Started (E.Engine.machine self.engine) (E.Engine.machine result.engine) self.count order W.Heading.heads result.frame }
         ensures fresh { Fresh result.frame order W.Heading.heads self.count }
         ensures engine { E.Engine.machine result.engine ≡ emptied (E.Engine.machine self.engine) }
@@ -81,7 +81,7 @@ impl<E: Engine> Cartridge<E> {
         ensures fresh { Fresh result.frame order Enciphering self.count }
         ensures engine { E.Engine.machine result.engine ≡ emptied (E.Engine.machine self.engine) }
     {
-        self.start(order, Sending {})
+        self.start(order, Sending)
     }
 
     /// Takes the cartridge into a run that deciphers.
@@ -90,6 +90,6 @@ impl<E: Engine> Cartridge<E> {
         ensures fresh { Fresh result.frame order Deciphering self.count }
         ensures engine { E.Engine.machine result.engine ≡ emptied (E.Engine.machine self.engine) }
     {
-        self.start(order, Receiving {})
+        self.start(order, Receiving)
     }
 }

@@ -5,6 +5,7 @@ ghost use Rattle.modes.specs.declared.way.Way.TheVariants.{Enciphering as Out, D
 
 use modes::way::Way;
 
+/// Which way a run goes.
 pub trait Heading {
     ghost heads: { Ways };
 
@@ -13,12 +14,12 @@ pub trait Heading {
 }
 
 /// The heading of an enciphering run.
-#[derive(Clone, Copy)]
-pub struct Sending {}
+#[derive(Clone, Copy, Debug)]
+pub struct Sending;
 
 /// The heading of a deciphering run.
-#[derive(Clone, Copy)]
-pub struct Receiving {}
+#[derive(Clone, Copy, Debug)]
+pub struct Receiving;
 
 impl Heading for Sending {
     ghost heads = { Out };
