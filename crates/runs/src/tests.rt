@@ -3,6 +3,7 @@ ghost use Rattle.std.proofs.Common.{rules};
 
 use super::cartridge::Cartridge;
 use super::run::Run;
+use super::run::heading::{Heading, Receiving, Sending};
 use cipher::Block;
 use cipher::dea::Dea;
 use engines::engine::Engine;
@@ -12,6 +13,7 @@ use engines::work::Work;
 use modes::mode::Mode;
 use modes::order::Order;
 
+// The tests' crate has the like of it, but a crate of the product rests on none of tests, and no call gives a cartridge's engine out.
 /// An engine around another that counts its cycles.
 #[derive(Drop)]
 struct Counting<E> {
@@ -22,17 +24,17 @@ struct Counting<E> {
 impl<E: Engine> Engine for Counting<E> {
     const DEPTH: usize = E::DEPTH;
 
+    ghost DEPTH = { E.Engine.DEPTH };
+
     ghost machine = { λ e. E.Engine.machine e.inner };
 
     ghost undo = { Prim.search rules };
 
+    ghost deep = { Prim.search rules };
+
     ghost places = { Prim.search rules };
 
     ghost shallow = { Prim.search rules };
-
-    fn depth_of(&self) -> usize {
-        self.inner.depth_of()
-    }
 
     fn clock(&mut self, input: Option<Work>) -> Option<Block> {
         self.clocks = self.clocks.saturating_add(1);
@@ -64,31 +66,39 @@ fn calls<E: Engine, W>(run: &mut Run<E, W>, mode: Mode, seed: u64) -> u64 {
     run.cycles()
 }
 
-/// A run in each mode on one cartridge, enciphering and deciphering in turn. Answers how often the engine was clocked, and how often it should have been.
+/// A run of those calls. Gives the cartridge back with the cycles told.
+fn run_through<E: Engine, W: Heading + Drop>(
+    cartridge: Cartridge<E>,
+    order: Order,
+    heading: W,
+    seed: u64,
+) -> (Cartridge<E>, u64) {
+    let mut run = cartridge.start(order, heading);
+    let cycles = calls(&mut run, order.mode(), seed);
+    (run.close(), cycles)
+}
+
+/// Runs in the modes in turn on one cartridge, some enciphering and some deciphering. Answers how often the engine was clocked, and how often it should have been.
 fn clocks_and_cycles<E: Engine + Drop>(engine: E, idle: u64) -> (u64, u64) {
     let mut cartridge = Cartridge::new(Counting {
         inner: engine,
         clocks: 0,
     });
     let mut due: u64 = 0;
-    for round in 0..220u64 {
-        let code = (1 + round % 11) as u8;
-        let Some(mode) = Mode::from_code(code) else {
+    for (round, code) in (0..220u64).zip((1..=11u8).cycle()) {
+        let Ok(mode) = Mode::try_from(code) else {
             continue;
         };
         let Ok(order) = Order::check(code, &[0x5A; 24][0..8 * mode.initial_values()]) else {
             continue;
         };
-        due = due.saturating_add(idle);
-        if next(round) >> 63 == 0 {
-            let mut run = cartridge.start_enciphering(order);
-            due = due.saturating_add(calls(&mut run, mode, round));
-            cartridge = run.close();
+        let (back, cycles) = if next(round) >> 63 == 0 {
+            run_through(cartridge, order, Sending, round)
         } else {
-            let mut run = cartridge.start_deciphering(order);
-            due = due.saturating_add(calls(&mut run, mode, round));
-            cartridge = run.close();
-        }
+            run_through(cartridge, order, Receiving, round)
+        };
+        cartridge = back;
+        due = due.saturating_add(idle).saturating_add(cycles);
     }
     (cartridge.engine.clocks, due)
 }
