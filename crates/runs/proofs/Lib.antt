@@ -7,6 +7,7 @@ pub mod Onwards
 pub mod Outputs
 pub mod Inside
 pub mod Passes
+pub mod Rests
 pub mod Waits
 pub mod MoreUnits
 pub mod Pumps

@@ -24,3 +24,7 @@ onward_then mach mach' mach'' f f' f'' a b c m n p q =
       room = omega (arith, p.room, q.room);
       count = omega (arith, p.count, q.count);
     }
+
+-- the same where units were handed out before
+pub onward_behind : (mach mach' : Machine) (f f' : Frame) (a r n : ℕ) → Onward mach mach' f f' 0 r n → Onward mach mach' f f' a (a + r) n
+onward_behind mach mach' f f' a r n p = record { engine = p.engine; kept = p.kept; room = omega (arith, p.room); count = p.count }

@@ -1,5 +1,5 @@
 -- A wait: empty cycles until the next unit may enter.
-use Rattle.std.proofs.Common.{◌≡◌, ℕ, ◌+◌, ◌-◌, ◌<◌, ◌≤◌, true, List, length, Some, Option, sym, ap, ◌∙◌, subst, ⊎_elim, arith}
+use Rattle.std.proofs.Common.{◌≡◌, ℕ, zero, suc, ◌+◌, ◌-◌, ◌<◌, ◌≤◌, true, List, length, Some, None, Option, sym, refl, ap, ◌∙◌, subst, ⊎_elim, arith}
 use Rattle.std.proofs.lemmas.Bool.{cases_lt}
 use Rattle.engines.specs.Machines.{Machine}
 use Rattle.modes.specs.Schedule.{entry}
@@ -50,6 +50,17 @@ module _ (mach : Machine) (places : List (Option ℕ)) (f : Frame) (calls : Call
 distance_pos : (calls : Calls true) (d : ℕ) → distance_in calls ≡ Some d → 0 < d
 distance_pos calls d e =
     ⊎_elim (λ l. l) (λ l. absurd (distance_proper (order_of calls).mode (way_of calls) (e ∙ ap Some (omega arith)))) (cases_lt 0 d)
+
+-- without a distance a unit waits for nothing
+passed_none : (D s : ℕ) → passed D None s ≡ entry D None s
+passed_none D zero = refl
+passed_none D (suc j) = omega arith
+
+pub waits_none : (mach : Machine) (f : Frame) → distance_of f.mode f.way ≡ None → (given : ℕ) (ys : List ℕ) → Waits mach mach f f given given ys ys
+waits_none mach f e given ys = λ calls us xs s p.
+    let is : distance_in calls ≡ None = sym (distance_is_in mach f calls us s _ _ p.at_work) ∙ e in
+    let now : passed mach.depth (distance_in calls) s ≡ entry mach.depth (distance_in calls) s = rw is (passed_none mach.depth s) in
+    (subst (λ t. Handing mach f calls us s given t xs ys) now p, λ d e'. absurd (let both : None ≡ Some d = sym is ∙ e' in cc))
 
 module _ (mach mach' : Machine) (f f' : Frame) (n a b d : ℕ) (xs ys : List ℕ) (e : distance_of f.mode f.way ≡ Some d)
     (idle : Idles mach mach' f f' n a b xs ys) (early : Early mach f n a xs) where

@@ -1,5 +1,5 @@
 -- Handing out: how a feed and a drain answer, and how a run stands on the way through them.
-use Rattle.std.specs.Prelude.{◌≡◌, ℕ, ◌+◌, ◌-◌, ◌<◌, ◌≤◌, true, List, [], ◌++◌, map, length, drop, Some, None, Ok, Err, Option, Result, slice_set}
+use Rattle.std.specs.Prelude.{◌≡◌, ℕ, ◌+◌, ◌-◌, ◌<◌, ◌≤◌, true, List, [], ◌++◌, map, length, take, drop, Some, None, Ok, Err, Option, Result, slice_set}
 use Rattle.std.specs.List.{range_with_len}
 use Rattle.refusals.specs.declared.Refusal.{Refusal}
 use Rattle.engines.specs.Machines.{Machine}
@@ -78,6 +78,10 @@ Passes mach mach' f f' (Some u) given given' ys ys' =
     (calls : Calls true) (us xs : List ℕ) (s t : ℕ) → Handing mach f calls us s given t xs ys
     → Enters mach (order_of calls).mode (way_of calls) us (units_earlier calls) s (out_in mach.depth calls + given) t u
     → Handing mach' f' calls us (s + 1) given' (t + 1) xs ys'
+
+-- the same of a call that is given what is left of the list behind the units that stand in it, and writes n more there
+abbrev pub Behind : ((given given' : ℕ) (ys ys' : List ℕ) → Type 0) → (n : ℕ) (xs xs' : List ℕ) → Type 0
+Behind R n xs xs' = (ys : List ℕ) (given : ℕ) → given ≤ length ys → drop given ys ≡ xs → R given (given + n) ys (take given ys ++ xs')
 
 -- so do n cycles with none
 abbrev pub Idles : (mach mach' : Machine) (f f' : Frame) (n given given' : ℕ) (ys ys' : List ℕ) → Type 0

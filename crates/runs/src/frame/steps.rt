@@ -1,9 +1,8 @@
 //! One unit's way into the engine and out of it.
 ghost use Rattle.std.specs.Prelude.{◌≡◌, ◌+◌, ◌<◌, ◌≤◌, length, Some};
 ghost use Rattle.engines.specs.Depths.{the_greatest_depth};
-ghost use Rattle.calls.specs.Limits.{unit_limit};
 ghost use Rattle.runs.specs.Steps.{input_by, mask_by, direction_by, register_by, fed_back_by, link_of, shift_from, pushed, counted, one_if};
-ghost use Rattle.runs.specs.Views.{view, Kept, Admitted, Released};
+ghost use Rattle.runs.specs.Views.{view, Kept, MayTake, Admitted, Released};
 
 use super::{Frame, Queue};
 use cipher::Block;
@@ -96,7 +95,7 @@ impl Frame {
 
     /// Takes a unit or none in, and says what goes into the engine.
     pub(crate) fn admit(&mut self, unit: Option<u64>) -> Option<Work>
-        requires { self.old.before + self.old.taken + one_if unit ≤ unit_limit }
+        requires { MayTake self.old (one_if unit) }
         ensures after { Admitted self.old.mode self.old.way (view self.old) (view self.new) unit result }
         ensures same { Kept self.old self.new }
         ensures most { length self.new.pending.items ≤ length self.old.pending.items + one_if unit }

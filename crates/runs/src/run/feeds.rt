@@ -1,6 +1,6 @@
 //! Feeding a run.
 ghost use Rattle.std.specs.Prelude.{◌≡◌, ◌+◌, ◌≤◌, length, IfOk, OnErr};
-ghost use Rattle.calls.specs.Limits.{unit_limit};
+ghost use Rattle.runs.specs.Views.{MayTake, HasRoom};
 ghost use Rattle.runs.specs.Stands.{of_run};
 ghost use Rattle.runs.specs.Handing.{Fed, feed_refusal, refusal_in, Pumps, Onward, Same};
 
@@ -12,16 +12,16 @@ use refusals::Refusal;
 impl<E: Engine, W> Run<E, W> {
     /// Each unit enters in its cycle, and what comes out is written.
     fn pump(&mut self, units: &[u64], out: &mut [u64]) -> usize
-        requires room { length self.old.frame.pending.items + length units.now ≤ length out.old }
-        requires limit { self.old.frame.before + self.old.frame.taken + length units.now ≤ unit_limit }
+        requires room { HasRoom self.old.frame (length units.now) out.old }
+        requires limit { MayTake self.old.frame (length units.now) }
         ensures pumped { of_run Pumps E.Engine.machine self.old self.new units.now (length units.now) result out.old out.new }
         ensures onward { of_run Onward E.Engine.machine self.old self.new 0 result (length units.now) }
         ensures idle { length units.now ≡ 0 → (result ≡ 0) × (self.new ≡ self.old) × (out.new ≡ out.old) }
     {
         let mut given = 0;
         for unit in units {
-            given = self.wait(out, given);
-            given = self.pass(Some(*unit), out, given);
+            given += self.wait(&mut out[given..]);
+            given += self.pass(Some(*unit), &mut out[given..]);
         }
         given
     }

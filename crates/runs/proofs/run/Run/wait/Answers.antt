@@ -1,23 +1,25 @@
-use Rattle.std.proofs.Common.{◌≡◌, ◌+◌, ◌-◌, sym, subst, arith}
-use Rattle.runs.specs.Handing.{Idles}
-use Rattle.runs.proofs.Onwards.{onward_none, onward_then}
+use Rattle.std.proofs.Common.{◌≡◌, ◌+◌, ◌-◌, ◌≤◌, length, None, sym, subst, arith}
+use Rattle.runs.specs.Handing.{Behind, Idles, Passes, Waits}
+use Rattle.runs.proofs.Onwards.{onward_none, onward_then, onward_behind}
 use Rattle.runs.proofs.Passes.{idles_none, idles_more}
-use Rattle.runs.proofs.Waits.{Early, early_first, early_more, waits_partner, waits_all}
+use Rattle.runs.proofs.Rests.{refilled, behind_none, behind_then}
+use Rattle.runs.proofs.Waits.{Early, early_first, early_more, waits_none, waits_partner, waits_all}
 use Rattle.runs.proofs.run.Run.wait.Goals as goal
+
+pub returns-in_default-clause-waited : goal.returns-in_default-clause-waited
+returns-in_default-clause-waited g c =
+    let m = g.E.Engine.machine c.args.self.now.engine in
+    let f = c.args.self.now.frame in
+    behind_none (Waits m m f f) c.args.out.now (waits_none m f (sym c.in_default.ensures.value))
 
 pub loop-init : goal.loop-init
 loop-init g c =
-    let mach = g.E.Engine.machine in
-    let run = c.args.self.now in (
-      onward_none (mach run.engine) run.frame c.args.given,
-      idles_none (mach run.engine) run.frame c.args.given c.args.out.now,
-      early_first (mach run.engine) run.frame c.args.given c.args.out.now,
+    let m = g.E.Engine.machine c.args.self.now.engine in
+    let f = c.args.self.now.frame in (
+      onward_none m f 0,
+      behind_none (Idles m m f f 0) c.args.out.now (idles_none m f),
+      behind_none (λ a _ ys _. Early m f 0 a ys) c.args.out.now (early_first m f),
     )
-
-pub pass-given-requires : goal.pass-given-requires
-pass-given-requires g c =
-    let on = c.loop.invariant.0 in
-    record { limit = omega (arith, c.loop.self.frame.within); room = omega (arith, on.room, c.requires) }
 
 pub loop-preserved : goal.loop-preserved
 loop-preserved g c =
@@ -25,36 +27,40 @@ loop-preserved g c =
     let run = c.args.self.now in
     let l = c.loop in
     let q = c.pass-given in
-    let on = onward_then (mach run.engine) (mach l.self.engine) (mach q.new.self.engine) run.frame l.self.frame q.new.self.frame
-    c.args.given l.given q.result 0 0 l.invariant.0 q.ensures.onward in
-    let e : l.counter - 1 + 1 ≡ l.counter + 1 - 1 = omega (arith, l.auto.counter) in (
+    let m0 = mach run.engine in
+    let m1 = mach l.self.engine in
+    let m2 = mach q.new.self.engine in
+    let n = l.counter - 1 in
+    let on = onward_then m0 m1 m2 run.frame l.self.frame q.new.self.frame 0 l.given (l.given + q.result) 0 0 l.invariant.0
+    (onward_behind m1 m2 l.self.frame q.new.self.frame l.given q.result 0 q.ensures.onward) in
+    let few : l.given ≤ length l.out = omega (arith, l.invariant.0.room, c.requires, l.auto.out) in
+    let e : n + 1 ≡ l.counter + 1 - 1 = omega (arith, l.auto.counter) in (
       on,
-      subst (λ n. Idles (mach run.engine) (mach q.new.self.engine) run.frame q.new.self.frame n c.args.given q.result c.args.out.now q.new.out) e
-          (idles_more (mach run.engine) (mach l.self.engine) (mach q.new.self.engine) run.frame l.self.frame q.new.self.frame
-          (l.counter - 1) c.args.given l.given q.result c.args.out.now l.out q.new.out l.invariant.0.engine on.engine l.invariant.1 q.ensures.passed),
-      subst (λ n. Early (mach run.engine) run.frame n c.args.given c.args.out.now) e
-          (early_more (mach run.engine) (mach l.self.engine) run.frame l.self.frame (l.counter - 1) c.args.given l.given c.in-Some.distance
-          c.args.out.now l.out (sym c.in-Some.ensures.value) l.invariant.1 l.invariant.2 (omega (arith, c.len.ensures.value, c.if-len-distance.false))),
+      subst (λ k. Behind (Idles m0 m2 run.frame q.new.self.frame k) (l.given + q.result) c.args.out.now (refilled l.out l.given q.new.out)) e
+          (behind_then (Idles m0 m1 run.frame l.self.frame n) (Passes m1 m2 l.self.frame q.new.self.frame None) (Idles m0 m2 run.frame q.new.self.frame (n + 1))
+          l.given q.result c.args.out.now l.out q.new.out
+          (λ a b d xs ys zs. idles_more m0 m1 m2 run.frame l.self.frame q.new.self.frame n a b d xs ys zs l.invariant.0.engine on.engine)
+          few l.invariant.1 q.ensures.passed),
+      λ ys given room left. subst (λ k. Early m0 run.frame k given ys) e
+          (early_more m0 m1 run.frame l.self.frame n given (given + l.given) c.in-Some.distance ys _
+          (sym c.in-Some.ensures.value) (l.invariant.1 ys given room left) (l.invariant.2 ys given room left)
+          (omega (arith, c.len.ensures.value, c.if-len-distance.false))),
     )
 
-pub returns-then-len-distance : goal.returns-then-len-distance
-returns-then-len-distance g c =
+pub returns-then-len-distance-clause-waited : goal.returns-then-len-distance-clause-waited
+returns-then-len-distance-clause-waited g c =
     let mach = g.E.Engine.machine in
     let run = c.args.self.now in
     let l = c.loop in
-    record {
-      waited = waits_partner (mach run.engine) (mach l.self.engine) run.frame l.self.frame (l.counter - 1) c.args.given l.given c.in-Some.distance
-          c.args.out.now l.out (sym c.in-Some.ensures.value) l.invariant.1 l.invariant.2 (omega (arith, c.len.ensures.value, c.if-len-distance.true));
-      onward = l.invariant.0;
-    }
+    λ ys given room left. waits_partner (mach run.engine) (mach l.self.engine) run.frame l.self.frame (l.counter - 1) given (given + l.given) c.in-Some.distance
+    ys _ (sym c.in-Some.ensures.value) (l.invariant.1 ys given room left) (l.invariant.2 ys given room left)
+    (omega (arith, c.len.ensures.value, c.if-len-distance.true))
 
-pub returns : goal.returns
-returns g c =
+pub returns-clause-waited : goal.returns-clause-waited
+returns-clause-waited g c =
     let mach = g.E.Engine.machine in
     let run = c.args.self.now in
     let l = c.loop in
-    record {
-      waited = waits_all (mach run.engine) (mach l.self.engine) run.frame l.self.frame (l.counter - 1) c.args.given l.given c.in-Some.distance
-          c.args.out.now l.out (sym c.in-Some.ensures.value) l.invariant.1 l.invariant.2 (omega (arith, c.loop-test.false, c.DEPTH-end.ensures, g.met.E.Engine.deep run.engine));
-      onward = l.invariant.0;
-    }
+    λ ys given room left. waits_all (mach run.engine) (mach l.self.engine) run.frame l.self.frame (l.counter - 1) given (given + l.given) c.in-Some.distance
+    ys _ (sym c.in-Some.ensures.value) (l.invariant.1 ys given room left) (l.invariant.2 ys given room left)
+    (omega (arith, c.loop-test.false, c.DEPTH-end.ensures, g.met.E.Engine.deep run.engine))
