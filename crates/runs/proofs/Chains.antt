@@ -2,6 +2,7 @@
 use Rattle.std.proofs.Common.{◌≡◌, ℕ, ◌+◌, ◌<◌, ◌≤◌, List, [], ◌∷◌, ◌++◌, length, get_or, drop, Some, None, sym, ap, ◌∙◌, div-one, add-one, arith}
 use lib.Bits.{bit_xor, xor_comm, xor_zero_r}
 use Rattle.std.proofs.lemmas.List.{append_assoc, get_or-take, length-append, length-take-le, take_more, drop-append-le, drop-drop}
+use Rattle.std.proofs.lemmas.Option.{none-some}
 use Rattle.modes.specs.declared.family.Family.{Family}
 use Rattle.modes.specs.declared.family.Family.TheVariants.{Codebook, Chaining, CipherFeedback, OutputFeedback}
 use Rattle.modes.specs.declared.way.Way.{Way}
@@ -20,11 +21,11 @@ leftmost_all w y e = ap (λ k. leftmost k y) e ∙ div-one y
 
 -- only a distance that some family has
 pub distance_is : (f : Family) (way : Way) (δ d : ℕ) → distance f way δ ≡ Some d → d ≡ δ
-distance_is Codebook way δ d e = let z : ◌≡◌ {A = ℕ} 0 1 = cc in absurd (omega arith)
+distance_is Codebook way δ d e = absurd (none-some d e)
 distance_is Chaining Enciphering δ d e = cc
-distance_is Chaining Deciphering δ d e = let z : ◌≡◌ {A = ℕ} 0 1 = cc in absurd (omega arith)
+distance_is Chaining Deciphering δ d e = absurd (none-some d e)
 distance_is CipherFeedback Enciphering δ d e = cc
-distance_is CipherFeedback Deciphering δ d e = let z : ◌≡◌ {A = ℕ} 0 1 = cc in absurd (omega arith)
+distance_is CipherFeedback Deciphering δ d e = absurd (none-some d e)
 distance_is OutputFeedback way δ d e = cc
 
 module _ (F : ℕ → ℕ) (w : ℕ) (ivs us : List ℕ) where
@@ -49,11 +50,11 @@ module _ (F : ℕ → ℕ) (w : ℕ) (ivs us : List ℕ) where
   pub chained_enters : (f : Family) (way : Way) (δ n : ℕ) → distance f way δ ≡ None → n < length us
       → chained_by F f w way ivs us (n + 1) ≡ chained_by F f w way ivs us n ++ get_or us n 0 ∷ []
   chained_enters Codebook way δ n e h = take_more us n 0 h
-  chained_enters Chaining Enciphering δ n e h = let z : ◌≡◌ {A = ℕ} 0 1 = cc in absurd (omega arith)
+  chained_enters Chaining Enciphering δ n e h = absurd (none-some δ (sym e))
   chained_enters Chaining Deciphering δ n e h = take_more us n 0 h
-  chained_enters CipherFeedback Enciphering δ n e h = let z : ◌≡◌ {A = ℕ} 0 1 = cc in absurd (omega arith)
+  chained_enters CipherFeedback Enciphering δ n e h = absurd (none-some δ (sym e))
   chained_enters CipherFeedback Deciphering δ n e h = take_more us n 0 h
-  chained_enters OutputFeedback way δ n e h = let z : ◌≡◌ {A = ℕ} 0 1 = cc in absurd (omega arith)
+  chained_enters OutputFeedback way δ n e h = absurd (none-some δ (sym e))
 
   module _ (G : ℕ → ℕ) (f : Family) (way : Way) where
     abbrev pub result_by : ℕ → ℕ
@@ -67,15 +68,15 @@ module _ (F : ℕ → ℕ) (w : ℕ) (ivs us : List ℕ) where
   -- with one, what comes back of a result goes in as it comes out
   pub chained_leaves : (G : ℕ → ℕ) (f : Family) (way : Way) (δ d n : ℕ) → Fit f w δ → distance f way δ ≡ Some d
       → chained_by F f w way ivs us (n + 1) ≡ chained_by F f w way ivs us n ++ fed_back_by f (result_by G f way n) (unit_by G f way n) ∷ []
-  chained_leaves G Codebook way δ d n fit e = let z : ◌≡◌ {A = ℕ} 0 1 = cc in absurd (omega arith)
+  chained_leaves G Codebook way δ d n fit e = absurd (none-some d e)
   chained_leaves G Chaining Enciphering δ d n fit e =
       ap (enciphered F Chaining w ivs us) (add-one n)
       ∙ ap (λ c. enciphered F Chaining w ivs us n ++ c ∷ []) (sym (leftmost_all w _ fit.0) ∙ sym (xor_zero_r _))
-  chained_leaves G Chaining Deciphering δ d n fit e = let z : ◌≡◌ {A = ℕ} 0 1 = cc in absurd (omega arith)
+  chained_leaves G Chaining Deciphering δ d n fit e = absurd (none-some d e)
   chained_leaves G CipherFeedback Enciphering δ d n fit e =
       ap (enciphered F CipherFeedback w ivs us) (add-one n)
       ∙ ap (λ c. enciphered F CipherFeedback w ivs us n ++ c ∷ []) (xor_comm (get_or us n 0) (leftmost w (F (register w ivs (enciphered F CipherFeedback w ivs us n) n))))
-  chained_leaves G CipherFeedback Deciphering δ d n fit e = let z : ◌≡◌ {A = ℕ} 0 1 = cc in absurd (omega arith)
+  chained_leaves G CipherFeedback Deciphering δ d n fit e = absurd (none-some d e)
   chained_leaves G OutputFeedback way δ d n fit e = ap (stream F ivs) (add-one n)
 
   -- a chain that holds all from place n on, one number on

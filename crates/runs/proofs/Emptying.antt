@@ -2,7 +2,7 @@
 use Rattle.std.proofs.Common.{◌≡◌, ℕ, zero, suc, ◌+◌, ◌-◌, ◌*◌, ◌≤◌, Bool, true, false, cond, ltb, leb, ◌⊎◌, List, [], ◌∷◌, ◌++◌, length, take, drop, replicate, Some, None, Ok, Err, Option, sym, refl, ap, ◌∙◌, subst, inl, inr, ⊎_elim, add-zero, arith}
 use native.Mathlib.Nat.{div-zero}
 use Rattle.std.proofs.lemmas.List.FromFn.{length-map-range_with_len}
-use Rattle.std.proofs.lemmas.List.{length-append, length-drop, append-nil, append_assoc, drop_all, drop-drop, take_at, drop_at}
+use Rattle.std.proofs.lemmas.List.{length-append, length-drop, append_assoc, drop-drop, take_at, drop_at}
 use Rattle.std.proofs.lemmas.Bool.{le-leb, ltb-false, cond-true, cases_lt}
 use Rattle.refusals.specs.declared.Refusal.{Refusal}
 use Rattle.engines.specs.Machines.{Machine}
@@ -20,12 +20,14 @@ use Rattle.calls.proofs.Stretching.{passed_is_cost}
 use Rattle.calls.proofs.Accepted.{drain_gives}
 use Rattle.calls.proofs.OpenRun.{progress, balanced}
 use Rattle.runs.specs.declared.frame.Frame.{Frame}
-use Rattle.runs.specs.Standing.{blocks, SameEngine}
+use Rattle.runs.specs.Standing.{blocks}
 use Rattle.runs.specs.Stands.{Stands}
 use Rattle.runs.specs.Handing.{Answered, feed_refusal, Fed, Drained}
 use Rattle.runs.specs.Whole.{cycles_for}
 use Rattle.runs.specs.Emptying.{Emptied, FedEmpty}
-use Rattle.runs.proofs.Numbers.{inside_told, count_told_now, width_told, in_row_told}
+use Rattle.runs.proofs.Numbers.{in_row_told}
+pub use Rattle.runs.proofs.Onwards.{same_then}
+use Rattle.runs.proofs.Rests.{refilled, refilled_is}
 use Rattle.runs.proofs.DrainReplies.{drain_accepts}
 
 -- ---- an engine with nothing in it
@@ -69,20 +71,9 @@ no_blocks [] e = refl
 no_blocks (None ∷ places) e = ap (λ xs. None ∷ xs) (no_blocks places e)
 no_blocks (Some b ∷ places) e = absurd (omega arith)
 
-pub same_then : (mach mach' mach'' : Machine) → SameEngine mach mach' → SameEngine mach' mach'' → SameEngine mach mach''
-same_then mach mach' mach'' p q = (q.0 ∙ p.0, q.1 ∙ p.1, q.2 ∙ p.2)
-
 -- ---- a run that stands for calls
 
 module _ (mach : Machine) (f : Frame) (calls : Calls true) (stands : Stands mach f calls) where
-  -- what a feed is refused, by what the run remembers
-  pub refusal_told : (us : List ℕ) (room : ℕ)
-      → feed_refusal f us room ≡ refusal_to_feed (inside_in mach.depth calls) (width_in calls) (count_in calls) us room (gave [])
-  refusal_told us room =
-      ap (λ n. refusal_to_feed n (row f.mode).width (f.before + f.taken) us room (gave [])) (inside_told mach f calls stands)
-      ∙ ap (λ n. refusal_to_feed (inside_in mach.depth calls) n (f.before + f.taken) us room (gave [])) (width_told mach f calls stands)
-      ∙ ap (λ n. refusal_to_feed (inside_in mach.depth calls) (width_in calls) n us room (gave [])) (count_told_now mach f calls stands)
-
   -- with nothing inside all results are out
   pub results_out : inside_in mach.depth calls ≡ 0
       → handed_out calls ≡ results mach.forward mach.inverse (order_of calls).mode (way_of calls) (listed (order_of calls).values) (taken calls) (length (taken calls))
@@ -168,14 +159,13 @@ module _ (F G : ℕ → ℕ) (D : ℕ) (deep : 1 ≤ D) (calls : Calls true) (qu
 -- what is written behind what stands first
 pub written_behind : (xs ys ws zs hs ks : List ℕ) (given : ℕ) → given ≡ length hs → ys ≡ hs ++ drop (length hs) xs → ws ≡ drop given ys
     → zs ≡ ks ++ drop (length ks) ws
-    → take given ys ++ (zs ++ drop (length ys - given) (drop given ys)) ≡ (hs ++ ks) ++ drop (length (hs ++ ks)) xs
+    → refilled ys given zs ≡ (hs ++ ks) ++ drop (length (hs ++ ks)) xs
 written_behind xs ys ws zs hs ks given count output rest more =
     let front : take given ys ≡ hs = ap (take given) output ∙ take_at hs (drop (length hs) xs) given (sym count) in
     let left : ws ≡ drop (length hs) xs = rest ∙ ap (drop given) output ∙ drop_at hs (drop (length hs) xs) given (sym count) in
     let over : drop (length ks) ws ≡ drop (length (hs ++ ks)) xs =
     ap (drop (length ks)) left ∙ drop-drop (length ks) (length hs) xs ∙ ap (λ n. drop n xs) (sym (length-append hs ks)) in
-    ap (λ l. take given ys ++ (zs ++ l)) (drop_all (length ys - given) (drop given ys) (omega (arith, length-drop given ys)))
-    ∙ ap (λ l. take given ys ++ l) (append-nil zs ∙ more ∙ ap (λ l. ks ++ l) over)
+    refilled_is ys zs given ∙ ap (λ l. take given ys ++ l) (more ∙ ap (λ l. ks ++ l) over)
     ∙ ap (λ l. l ++ (ks ++ drop (length (hs ++ ks)) xs)) front
     ∙ sym (append_assoc hs ks (drop (length (hs ++ ks)) xs))
 
@@ -197,7 +187,7 @@ module _ (mach1 mach2 : Machine) (f1 f2 : Frame) (calls : Calls true) (us xs ys 
       subst (Answered ws zs (Err e)) (drain_accepts _ (length ws) fits _) (answers (fed us (length xs) (gave hs) calls) stands).0
 
   pub emptied_by : (n : ℕ) → Drained mach1 mach2 f1 f2 ws zs (Ok n)
-      → Emptied mach2 f2 calls us xs (take given ys ++ (zs ++ drop (length ys - given) (drop given ys))) (given + n)
+      → Emptied mach2 f2 calls us xs (refilled ys given zs) (given + n)
   emptied_by n answers =
       let a = answers (fed us (length xs) (gave hs) calls) stands in
       let p = gave_by ws zs n _ a.0 in
@@ -229,7 +219,7 @@ module _ (mach mach1 : Machine) (f f1 : Frame) (us xs ys : List ℕ) where
         (subst (λ b. Stands mach1 f1 (fed us (length xs) b calls)) p.1 a.1) e drains
 
     pub fed_and_drained : (n : ℕ) → gave [] ≡ feed_refusal f us (length xs) → Drained mach1 mach2 f1 f2 ws zs (Ok n)
-        → FedEmpty mach mach2 f f2 us xs (take given ys ++ (zs ++ drop (length ys - given) (drop given ys))) (Ok (given + n))
+        → FedEmpty mach mach2 f f2 us xs (refilled ys given zs) (Ok (given + n))
     fed_and_drained n refusal drains calls stands =
         let a = feeds calls stands in
         let p = gave_by xs ys given _ a.0 in (

@@ -54,7 +54,7 @@ module _ (n w c : ℕ) (us : List ℕ) (room : ℕ) where
       has_room l otherwise ∙ ap (λ wide. beyond_room wide otherwise) e ∙ cond-false _ _ _ (le-ltb unit_limit (c + length us) few)
 
 -- the numbers that a run tells are those of its calls
-refusal_told : (mach : Machine) (f : Frame) (calls : Calls true) → Stands mach f calls → (us : List ℕ) (room : ℕ) (otherwise : Answer)
+pub refusal_told : (mach : Machine) (f : Frame) (calls : Calls true) → Stands mach f calls → (us : List ℕ) (room : ℕ) (otherwise : Answer)
     → refusal_to_feed (inside_in mach.depth calls) (width_in calls) (count_in calls) us room otherwise
     ≡ refusal_to_feed (length f.pending.items) (row f.mode).width (f.before + f.taken) us room otherwise
 refusal_told mach f calls stands us room otherwise =

@@ -12,6 +12,9 @@ same_holding mach mach' same =
     ∙ ap (λ G. record { forward = mach.forward; inverse = G; depth = mach'.depth; row = mach'.row }) same.1
     ∙ ap (λ D. record { forward = mach.forward; inverse = mach.inverse; depth = D; row = mach'.row }) same.2
 
+pub same_then : (mach mach' mach'' : Machine) → SameEngine mach mach' → SameEngine mach' mach'' → SameEngine mach mach''
+same_then mach mach' mach'' p q = (q.0 ∙ p.0, q.1 ∙ p.1, q.2 ∙ p.2)
+
 pub onward_none : (mach : Machine) (f : Frame) (given : ℕ) → Onward mach mach f f given given 0
 onward_none mach f given = record { engine = (refl, refl, refl); kept = (refl, refl, refl); room = omega arith; count = omega arith }
 
@@ -19,7 +22,7 @@ pub onward_then : (mach mach' mach'' : Machine) (f f' f'' : Frame) (a b c m n : 
     → Onward mach mach'' f f'' a c (m + n)
 onward_then mach mach' mach'' f f' f'' a b c m n p q =
     record {
-      engine = (q.engine.0 ∙ p.engine.0, q.engine.1 ∙ p.engine.1, q.engine.2 ∙ p.engine.2);
+      engine = same_then mach mach' mach'' p.engine q.engine;
       kept = (q.kept.0 ∙ p.kept.0, q.kept.1 ∙ p.kept.1, q.kept.2 ∙ p.kept.2);
       room = omega (arith, p.room, q.room);
       count = omega (arith, p.count, q.count);

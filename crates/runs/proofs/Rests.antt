@@ -31,7 +31,7 @@ passes_behind mach mach' f f' unit r n xs xs' same kept room count after cyc = �
 abbrev pub refilled : List ℕ → ℕ → List ℕ → List ℕ
 refilled xs n rest = take n xs ++ (rest ++ drop (length xs - n) (drop n xs))
 
-refilled_is : (xs rest : List ℕ) (n : ℕ) → refilled xs n rest ≡ take n xs ++ rest
+pub refilled_is : (xs rest : List ℕ) (n : ℕ) → refilled xs n rest ≡ take n xs ++ rest
 refilled_is xs rest n =
     let size = length-drop n xs in
     ap (λ zs. take n xs ++ (rest ++ zs)) (drop_all (length xs - n) (drop n xs) (omega arith)) ∙ ap (λ zs. take n xs ++ zs) (append-nil rest)

@@ -2,6 +2,7 @@
 use Rattle.std.proofs.Common.{◌≡◌, ℕ, zero, suc, ◌+◌, ◌-◌, ◌<◌, ◌≤◌, eqb, List, [], ◌∷◌, ◌++◌, map, get_or, drop, Some, None, Option, sym, refl, ap, ◌∙◌, subst, ⊎_elim, add-zero, arith}
 use Rattle.std.specs.List.{range_with_len}
 use Rattle.std.proofs.lemmas.Bool.{cases_lt, eq-eqb, ne_eqb, cond-true, cond-false}
+use Rattle.std.proofs.lemmas.Option.{none-some}
 use Rattle.modes.specs.Schedule.{entry, leaving}
 use Rattle.modes.proofs.Entries.{entry_next}
 use Rattle.runs.specs.Standing.{blocks, slot}
@@ -65,9 +66,9 @@ blocks_some (Some a ∷ row) b = ap suc (blocks_some row b) ∙ omega arith
 pub blocks_stay : (row : List (Option ℕ)) → get_or row 0 None ≡ None → blocks (drop 1 row) ≡ blocks row
 blocks_stay [] e = refl
 blocks_stay (None ∷ row) e = refl
-blocks_stay (Some b ∷ row) e = absurd (let z : ◌≡◌ {A = ℕ} 0 1 = cc in omega arith)
+blocks_stay (Some b ∷ row) e = absurd (none-some b (sym e))
 
 pub blocks_go : (row : List (Option ℕ)) (b : ℕ) → get_or row 0 None ≡ Some b → blocks (drop 1 row) + 1 ≡ blocks row
-blocks_go [] b e = absurd (let z : ◌≡◌ {A = ℕ} 0 1 = cc in omega arith)
-blocks_go (None ∷ row) b e = absurd (let z : ◌≡◌ {A = ℕ} 0 1 = cc in omega arith)
+blocks_go [] b e = absurd (none-some b e)
+blocks_go (None ∷ row) b e = absurd (none-some b e)
 blocks_go (Some a ∷ row) b e = omega arith

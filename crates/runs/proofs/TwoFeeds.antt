@@ -17,7 +17,9 @@ use Rattle.runs.specs.Handing.{feed_refusal}
 use Rattle.runs.specs.Whole.{Ending, unless_refused, refusal_behind, ending, cycles_in_two, in_two}
 use Rattle.runs.specs.Emptying.{Emptied, FedEmpty, FedTwice}
 use Rattle.runs.proofs.Numbers.{count_told_now}
-use Rattle.runs.proofs.Emptying.{refusal_told, results_out, engine_rests, drained_empty, cycles_of_feed, written_behind}
+use Rattle.runs.proofs.Rests.{refilled}
+use Rattle.runs.proofs.FeedReplies.{refusal_told}
+use Rattle.runs.proofs.Emptying.{results_out, engine_rests, drained_empty, cycles_of_feed, written_behind}
 
 unless_ended : (a : Answer) (e : Refusal) (ends : Refusal → Ending) (on : Ending) → refused e ≡ a → ends e ≡ unless_refused a ends on
 unless_ended a e ends on = ap (λ b. unless_refused b ends on)
@@ -34,7 +36,7 @@ module _ (mach : Machine) (f : Frame) (calls : Calls true) (stands : Stands mach
       → feed_refusal f us room ≡ refusal_behind (order_of calls) (taken calls) us xs
   refused_behind us xs room left =
       let count : count_in calls ≡ length (taken calls) = omega arith in
-      refusal_told mach f calls stands us room
+      sym (refusal_told mach f calls stands us room (gave []))
       ∙ ap (λ n. refusal_to_feed n (width_in calls) (count_in calls) us room (gave [])) quiet
       ∙ ap (λ n. refusal_to_feed 0 (width_in calls) n us room (gave [])) count
       ∙ ap (λ n. refusal_to_feed 0 (width_in calls) (length (taken calls)) us n (gave [])) left
@@ -89,7 +91,7 @@ module _ (mach mach1 mach2 : Machine) (f f1 f2 : Frame) (first second xs ys ws z
       (ap length rest ∙ length-drop given ys ∙ omega (arith, out_is_taken mach1 f1 calls one.stands quiet refl))
 
   pub second_refused : (e : Refusal) → FedEmpty mach1 mach2 f1 f2 second ws zs (Err e)
-      → FedTwice mach mach2 f (f2.before + f2.taken) first second xs (take given ys ++ (zs ++ drop (length ys - given) (drop given ys))) (Err e)
+      → FedTwice mach mach2 f (f2.before + f2.taken) first second xs (refilled ys given zs) (Err e)
   second_refused e more order way stands =
       let one = (feeds (started order way new) stands).1 in
       let calls = once order way first (length xs) one.hs one.ks in
@@ -101,7 +103,7 @@ module _ (mach mach1 mach2 : Machine) (f f1 f2 : Frame) (first second xs ys ws z
       (p.0 ∙ unless_ended _ e _ _ (two.0 ∙ behind_once order way one) ∙ unless_on _ [] _ _ (on_to_second order way stands), p.1)
 
   pub fed_twice : (n cycles : ℕ) → FedEmpty mach1 mach2 f1 f2 second ws zs (Ok n) → Tells mach2 f2 (λ told. told.cycles) cycles
-      → FedTwice mach mach2 f (f2.before + f2.taken) first second xs (take given ys ++ (zs ++ drop (length ys - given) (drop given ys))) (Ok cycles)
+      → FedTwice mach mach2 f (f2.before + f2.taken) first second xs (refilled ys given zs) (Ok cycles)
   fed_twice n cycles more tells order way stands =
       let start = started order way new in
       let one = (feeds start stands).1 in

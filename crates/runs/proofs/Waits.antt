@@ -1,6 +1,7 @@
 -- A wait: empty cycles until the next unit may enter.
 use Rattle.std.proofs.Common.{◌≡◌, ℕ, zero, suc, ◌+◌, ◌-◌, ◌<◌, ◌≤◌, true, List, length, Some, None, Option, sym, refl, ap, ◌∙◌, subst, ⊎_elim, arith}
 use Rattle.std.proofs.lemmas.Bool.{cases_lt}
+use Rattle.std.proofs.lemmas.Option.{none-some}
 use Rattle.engines.specs.Machines.{Machine}
 use Rattle.modes.specs.Schedule.{entry}
 use Rattle.modes.specs.Table.{distance_of}
@@ -60,7 +61,7 @@ pub waits_none : (mach : Machine) (f : Frame) → distance_of f.mode f.way ≡ N
 waits_none mach f e given ys = λ calls us xs s p.
     let is : distance_in calls ≡ None = sym (distance_is_in mach f calls us s _ _ p.at_work) ∙ e in
     let now : passed mach.depth (distance_in calls) s ≡ entry mach.depth (distance_in calls) s = rw is (passed_none mach.depth s) in
-    (subst (λ t. Handing mach f calls us s given t xs ys) now p, λ d e'. absurd (let both : None ≡ Some d = sym is ∙ e' in cc))
+    (subst (λ t. Handing mach f calls us s given t xs ys) now p, λ d e'. absurd (none-some d (sym is ∙ e')))
 
 module _ (mach mach' : Machine) (f f' : Frame) (n a b d : ℕ) (xs ys : List ℕ) (e : distance_of f.mode f.way ≡ Some d)
     (idle : Idles mach mach' f f' n a b xs ys) (early : Early mach f n a xs) where

@@ -1,4 +1,3 @@
-use Rattle.std.proofs.Common.{rules}
 use Rattle.std.proofs.lemmas.List.{take_rest}
 use Rattle.std.proofs.lemmas.Result.{err_from_is_err_and}
 use Rattle.runs.proofs.Emptying.{same_then, refused_at_once, never_refused, fed_and_drained}
@@ -29,8 +28,8 @@ returns-in_err-drained g c =
       same = same_then (machine run.engine) (machine fed.engine) (machine emptied.engine) feed.same.0 drain.same.0;
     })
 
-pub returns : goal.returns
-returns g c =
+pub returns-clause-emptied : goal.returns-clause-emptied
+returns-clause-emptied g c =
     let feed = c.in_ok-given.ensures in
     let drain = c.in_ok-drained.ensures in
     let run = c.args.run.now in
@@ -39,8 +38,4 @@ returns g c =
     let given = c.in_ok-given.given in
     let machine = g.E.Engine.machine in
     let rest = take_rest c.feed.new.out given in
-    record {
-      emptied = fed_and_drained (machine run.engine) (machine fed.engine) run.frame fed.frame c.args.units.now c.args.out.now c.feed.new.out (machine emptied.engine) emptied.frame _ c.drain.new.out given rest feed.answered _ feed.refusal drain.answered;
-      within = search rules;
-      same = same_then (machine run.engine) (machine fed.engine) (machine emptied.engine) feed.same.0 drain.same.0;
-    }
+    fed_and_drained (machine run.engine) (machine fed.engine) run.frame fed.frame c.args.units.now c.args.out.now c.feed.new.out (machine emptied.engine) emptied.frame _ c.drain.new.out given rest feed.answered _ feed.refusal drain.answered

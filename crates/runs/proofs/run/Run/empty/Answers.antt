@@ -31,14 +31,11 @@ loop-preserved g c =
           (on_rest (Passes m1 m2 l.self.frame q.new.self.frame None) l.given q.result l.out q.new.out few q.ensures.passed)),
     )
 
-pub returns : goal.returns
-returns g c =
+pub returns-clause-emptied : goal.returns-clause-emptied
+returns-clause-emptied g c =
     let mach = g.E.Engine.machine in
     let run = c.args.self.now in
     let l = c.loop in
     let e : l.counter - 1 ≡ (mach run.engine).depth - 1 =
     omega (arith, c.loop-test.false, l.auto.counter, l.auto.counter-end, c.DEPTH-end.ensures, g.met.E.Engine.deep run.engine, g.met.E.Engine.places run.engine) in
-    record {
-      emptied = subst (λ n. Idles (mach run.engine) (mach l.self.engine) run.frame l.self.frame n 0 l.given c.args.out.now l.out) e l.invariant.1;
-      onward = l.invariant.0;
-    }
+    subst (λ n. Idles (mach run.engine) (mach l.self.engine) run.frame l.self.frame n 0 l.given c.args.out.now l.out) e l.invariant.1
