@@ -85,5 +85,7 @@ module _ (F : ℕ → ℕ) (w : ℕ) (ivs us : List ℕ) where
   chain_moves f way n x h e =
       let C = chained_by F f w way ivs us in
       let l : n ≤ length (ivs ++ C n) = rw (length-append ivs (C n)) (omega (arith, length_chained f way n h)) in
-      ap (drop 1) (sym (drop-append-le n (ivs ++ C n) (x ∷ []) l)) ∙ drop-drop 1 n ((ivs ++ C n) ++ x ∷ [])
-      ∙ ap (drop (n + 1)) (append_assoc ivs (C n) (x ∷ []) ∙ ap (λ c. ivs ++ c) (sym e))
+      let front = drop-append-le n (ivs ++ C n) (x ∷ []) l in
+      let on = drop-drop 1 n ((ivs ++ C n) ++ x ∷ []) in
+      let assoc = append_assoc ivs (C n) (x ∷ []) in
+      cc (front, on, assoc, e)

@@ -8,14 +8,13 @@ use Rattle.refusals.specs.declared.Refusal.{Refusal}
 use Rattle.engines.specs.Machines.{Machine}
 use Rattle.engines.specs.Cycles.{emptied}
 use Rattle.modes.specs.Schedule.{entry, leaving}
-use Rattle.modes.specs.Table.{row}
 use Rattle.modes.specs.Values.{listed}
 use Rattle.modes.specs.Results.{results}
 use Rattle.modes.proofs.Entries.{entry_flat}
 use Rattle.modes.proofs.Receiving.{length_results}
 use Rattle.calls.specs.Stretches.{passed, inside}
 use Rattle.calls.specs.Calls.{Answer, Calls, gave, refused, fed, drained, order_of, way_of, taken, handed_out, stretch}
-use Rattle.calls.specs.Due.{distance_in, width_in, count_in, inside_in, cycles_passed, refusal_to_feed, Follows}
+use Rattle.calls.specs.Due.{distance_in, inside_in, cycles_passed, refusal_to_feed, Follows}
 use Rattle.calls.proofs.Stretching.{passed_is_cost}
 use Rattle.calls.proofs.Accepted.{drain_gives}
 use Rattle.calls.proofs.OpenRun.{progress, balanced}
@@ -163,11 +162,11 @@ pub written_behind : (xs ys ws zs hs ks : List ℕ) (given : ℕ) → given ≡ 
 written_behind xs ys ws zs hs ks given count output rest more =
     let front : take given ys ≡ hs = ap (take given) output ∙ take_at hs (drop (length hs) xs) given (sym count) in
     let left : ws ≡ drop (length hs) xs = rest ∙ ap (drop given) output ∙ drop_at hs (drop (length hs) xs) given (sym count) in
-    let over : drop (length ks) ws ≡ drop (length (hs ++ ks)) xs =
-    ap (drop (length ks)) left ∙ drop-drop (length ks) (length hs) xs ∙ ap (λ n. drop n xs) (sym (length-append hs ks)) in
-    refilled_is ys zs given ∙ ap (λ l. take given ys ++ l) (more ∙ ap (λ l. ks ++ l) over)
-    ∙ ap (λ l. l ++ (ks ++ drop (length (hs ++ ks)) xs)) front
-    ∙ sym (append_assoc hs ks (drop (length (hs ++ ks)) xs))
+    let over = drop-drop (length ks) (length hs) xs in
+    let both = length-append hs ks in
+    let whole = refilled_is ys zs given in
+    let assoc = append_assoc hs ks (drop (length hs + length ks) xs) in
+    cc (front, left, over, both, whole, more, assoc)
 
 module _ (mach1 mach2 : Machine) (f1 f2 : Frame) (calls : Calls true) (us xs ys ws zs hs : List ℕ) (given : ℕ) (count : given ≡ length hs)
     (output : ys ≡ hs ++ drop (length hs) xs) (rest : ws ≡ drop given ys)

@@ -58,10 +58,7 @@ pub refusal_told : (mach : Machine) (f : Frame) (calls : Calls true) → Stands 
     → refusal_to_feed (inside_in mach.depth calls) (width_in calls) (count_in calls) us room otherwise
     ≡ refusal_to_feed (length f.pending.items) (row f.mode).width (f.before + f.taken) us room otherwise
 refusal_told mach f calls stands us room otherwise =
-    sym
-    (ap (λ n. refusal_to_feed n (row f.mode).width (f.before + f.taken) us room otherwise) (inside_told mach f calls stands)
-    ∙ ap (λ w. refusal_to_feed (inside_in mach.depth calls) w (f.before + f.taken) us room otherwise) (width_told mach f calls stands)
-    ∙ ap (λ c. refusal_to_feed (inside_in mach.depth calls) (width_in calls) c us room otherwise) (count_told_now mach f calls stands))
+    cc (inside_told mach f calls stands, width_told mach f calls stands, count_told_now mach f calls stands)
 
 -- a refusal alters nothing
 pub feed_refused : (mach : Machine) (f : Frame) (us xs : List ℕ) (e : Refusal)

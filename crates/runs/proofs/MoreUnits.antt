@@ -1,7 +1,7 @@
 -- What a run has done stays as it was while more units come.
 use Rattle.std.proofs.Common.{◌≡◌, ℕ, ◌+◌, ◌-◌, ◌<◌, ◌≤◌, List, ◌++◌, length, get_or, drop, Some, None, Option, sym, refl, ap, ◌∙◌, arith}
 use Rattle.std.proofs.lemmas.List.{get_or_append_left, length-append, take-append-le}
-use Rattle.engines.specs.Machines.{Machine, directed}
+use Rattle.engines.specs.Machines.{Machine}
 use Rattle.modes.specs.declared.family.Family.{Family}
 use Rattle.modes.specs.declared.family.Family.TheVariants.{Codebook, Chaining, CipherFeedback, OutputFeedback}
 use Rattle.modes.specs.declared.mode.Mode.{Mode}
@@ -10,7 +10,7 @@ use Rattle.modes.specs.declared.way.Way.TheVariants.{Enciphering, Deciphering}
 use Rattle.modes.specs.Results.{before, register, ciphered, enciphered}
 use Rattle.modes.specs.Table.{row, distance_of}
 use Rattle.modes.proofs.Grown.{grown_same}
-use Rattle.runs.specs.Steps.{input_by, mask_by, direction_by, chained_by, chained, link, shift, result_at, mask_at, View}
+use Rattle.runs.specs.Steps.{chained_by, chained, link, shift, result_at, mask_at, View}
 use Rattle.runs.specs.Standing.{Registered, chain_end, Standing}
 use Rattle.runs.proofs.Slots.{slot_same, map_same}
 
@@ -41,17 +41,10 @@ module _ (F G : ℕ → ℕ) (m : Mode) (way : Way) (ivs us more : List ℕ) whe
   link_more i h = ap (λ c. before ivs c i) (chain_more i (omega arith))
 
   result_more : (i : ℕ) → i < length us → result_at F G m way ivs us i ≡ result_at F G m way ivs (us ++ more) i
-  result_more i h =
-      let input = input_by (row m).family way in
-      ap (directed F G (direction_by (row m).family way))
-      (ap (λ u. input u (link F G m way ivs us i) (shift F G m way ivs us i)) (unit_more i h)
-      ∙ ap (λ l. input (get_or (us ++ more) i 0) l (shift F G m way ivs us i)) (link_more i h)
-      ∙ ap (λ r. input (get_or (us ++ more) i 0) (link F G m way ivs (us ++ more) i) r) (shift_more i h))
+  result_more i h = cc (unit_more i h, link_more i h, shift_more i h)
 
   mask_more : (i : ℕ) → i < length us → mask_at F G m way ivs us i ≡ mask_at F G m way ivs (us ++ more) i
-  mask_more i h =
-      ap (λ u. mask_by (row m).family way u (link F G m way ivs us i)) (unit_more i h)
-      ∙ ap (mask_by (row m).family way (get_or (us ++ more) i 0)) (link_more i h)
+  mask_more i h = cc (unit_more i h, link_more i h)
 
   registered_more : (f : Family) (n r : ℕ) → n ≤ length us → Registered f (shift F G m way ivs us) n r → Registered f (shift F G m way ivs (us ++ more)) n r
   registered_more Codebook n r h k = tt

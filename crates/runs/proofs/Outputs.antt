@@ -18,10 +18,11 @@ output_more y a n x xs ys e h ex =
     let M = map y (range_with_len a n) in
     let len = length-map-range_with_len y a n in
     let l : n < length xs = omega (arith, ap length e, length-append M (drop n xs), length-drop n xs) in
-    ap (λ zs. set zs n x) (e ∙ ap (λ zs. M ++ zs) (drop_more xs n 0 l))
-    ∙ set_at M (get_or xs n 0) (drop (n + 1) xs) x n len
-    ∙ ap (λ z. M ++ z ∷ drop (n + 1) xs) ex
-    ∙ sym (ap (λ zs. zs ++ drop (n + 1) xs) (map-range_with_len_more y a n (a + n) refl) ∙ append_assoc M (y (a + n) ∷ []) (drop (n + 1) xs))
+    let rest = drop_more xs n 0 l in
+    let put = set_at M (get_or xs n 0) (drop (n + 1) xs) x n len in
+    let more = map-range_with_len_more y a n (a + n) refl in
+    let assoc = append_assoc M (y (a + n) ∷ []) (drop (n + 1) xs) in
+    cc (e, rest, put, ex, more, assoc)
 
 -- the units that are handed out from place a on are the results from there on
 pub units_are_results : (F G : ℕ → ℕ) (m : Mode) (way : Way) (ivs us : List ℕ) (a n b : ℕ) → length ivs ≡ (row m).values → a + n ≡ b

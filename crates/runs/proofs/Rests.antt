@@ -14,10 +14,11 @@ use Rattle.runs.proofs.Passes.{passes}
 written_rest : (ys : List ℕ) (given : ℕ) (r : Option ℕ) → take given ys ++ written (drop given ys) 0 r ≡ written ys given r
 written_rest ys given None = take-append-drop given ys
 written_rest ys given (Some x) =
-    let e : given + 0 ≡ given = omega arith in
-    ap (λ zs. take given ys ++ zs) (sym (drop-set-add given ys 0 x))
-    ∙ ap (λ zs. zs ++ drop given (set ys (given + 0) x)) (sym (take-set-le given ys (given + 0) x (omega arith)))
-    ∙ take-append-drop given (set ys (given + 0) x) ∙ ap (λ n. set ys n x) e
+    let none : given + 0 ≡ given = omega arith in
+    let rest = drop-set-add given ys 0 x in
+    let front = take-set-le given ys (given + 0) x (omega arith) in
+    let whole = take-append-drop given (set ys (given + 0) x) in
+    cc (none, rest, front, whole)
 
 pub passes_behind : (mach mach' : Machine) (f f' : Frame) (unit r : Option ℕ) (n : ℕ) (xs xs' : List ℕ) → SameEngine mach mach' → Kept f f'
     → one_if r ≤ length xs → n ≡ one_if r → xs' ≡ written xs 0 r → Cycled mach mach' f.mode f.way (view f) (view f') unit r

@@ -1,7 +1,7 @@
 -- The start of a run.
 use Rattle.std.proofs.Common.{◌≡◌, ℕ, zero, suc, ◌+◌, ◌-◌, ◌≤◌, List, [], ◌∷◌, ◌++◌, map, drop, replicate, Some, None, Option, sym, refl, ap, ◌∙◌, subst, arith}
 use Rattle.std.specs.List.{range_with_len}
-use Rattle.std.proofs.lemmas.List.{append-nil}
+use Rattle.std.proofs.lemmas.List.{append-nil, nil_from_length}
 use Rattle.engines.specs.Machines.{Machine}
 use Rattle.engines.specs.Cycles.{emptied}
 use Rattle.engines.specs.Depths.{the_greatest_depth}
@@ -9,7 +9,6 @@ use Rattle.modes.specs.declared.family.Family.{Family}
 use Rattle.modes.specs.declared.family.Family.TheVariants.{Codebook, Chaining, CipherFeedback, OutputFeedback}
 use Rattle.modes.specs.declared.order.Order.{Order}
 use Rattle.modes.specs.declared.way.Way.{Way}
-use Rattle.modes.specs.declared.way.Way.TheVariants.{Enciphering, Deciphering}
 use Rattle.modes.specs.Table.{row, distance_of}
 use Rattle.modes.specs.Values.{listed}
 use Rattle.modes.proofs.Openings.{suits_begins}
@@ -18,18 +17,14 @@ use Rattle.runs.specs.declared.frame.Frame.{Frame}
 use Rattle.runs.specs.Steps.{chained_by, chained, result_at}
 use Rattle.runs.specs.Standing.{blocks, slot, Registered, chain_end}
 use Rattle.runs.specs.Stands.{Fresh, Started, Stands}
+use Rattle.runs.proofs.Chains.{length_chained}
 
 slots_none : (D : ℕ) (δ : Option ℕ) (y : ℕ → ℕ) (a n : ℕ) → replicate n None ≡ map (slot D δ y 0) (range_with_len a n)
 slots_none D δ y a zero = refl
 slots_none D δ y a (suc n) = ap (λ places. None ∷ places) (slots_none D δ y (a + 1) n)
 
 chained_none : (F : ℕ → ℕ) (f : Family) (w : ℕ) (way : Way) (ivs us : List ℕ) → chained_by F f w way ivs us 0 ≡ []
-chained_none F Codebook w way ivs us = refl
-chained_none F Chaining w Enciphering ivs us = refl
-chained_none F Chaining w Deciphering ivs us = refl
-chained_none F CipherFeedback w Enciphering ivs us = refl
-chained_none F CipherFeedback w Deciphering ivs us = refl
-chained_none F OutputFeedback w way ivs us = refl
+chained_none F f w way ivs us = nil_from_length _ (length_chained F w ivs us f way 0 (omega arith))
 
 registered_none : (f : Family) (R : ℕ → ℕ) (r : ℕ) → Registered f R 0 r
 registered_none Codebook R r = tt

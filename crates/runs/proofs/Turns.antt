@@ -1,5 +1,5 @@
 -- One cycle in two halves: a unit or none joins the row, then the row moves and a result or none comes out.
-use Rattle.std.proofs.Common.{◌≡◌, ℕ, zero, suc, ◌+◌, ◌-◌, ◌%◌, ◌^◌, ◌<◌, ◌≤◌, cond, eqb, ltb, List, [], ◌∷◌, ◌++◌, map, length, get_or, drop, Some, None, Option, sym, refl, ap, ◌∙◌, subst, ⊎_elim, add-one, arith}
+use Rattle.std.proofs.Common.{◌≡◌, ℕ, zero, suc, ◌+◌, ◌-◌, ◌%◌, ◌^◌, ◌<◌, ◌≤◌, eqb, List, [], ◌∷◌, ◌++◌, map, length, get_or, drop, Some, None, Option, sym, refl, ap, ◌∙◌, subst, ⊎_elim, add-one, arith}
 use native.Mathlib.Nat.{mod-add-mod}
 use lib.Bits.{bit_xor}
 use Rattle.std.specs.List.{range_with_len}
@@ -12,13 +12,13 @@ use Rattle.modes.specs.declared.family.Family.TheVariants.{Codebook, Chaining, C
 use Rattle.modes.specs.declared.mode.Mode.{Mode}
 use Rattle.modes.specs.declared.way.Way.{Way}
 use Rattle.modes.specs.declared.way.Way.TheVariants.{Enciphering, Deciphering}
-use Rattle.modes.specs.Bits.{leftmost, shifted}
+use Rattle.modes.specs.Bits.{leftmost}
 use Rattle.modes.specs.Results.{before, register}
 use Rattle.modes.specs.Schedule.{entry, leaving}
 use Rattle.modes.specs.Table.{row, distance_of}
 use Rattle.modes.proofs.Fits.{Fit, fit, values_within}
 use Rattle.modes.proofs.Registers.{before_same, register_same}
-use Rattle.runs.specs.Steps.{input_by, direction_by, mask_by, register_by, fed_back_by, chained, link, shift, result_at, mask_at, unit_at, View, link_place, chain_entered, chain_left, link_of, shift_of, work_of, entered, unit_of, left, counted}
+use Rattle.runs.specs.Steps.{input_by, register_by, fed_back_by, chained, link, shift, result_at, mask_at, unit_at, View, link_place, chain_entered, chain_left, link_of, shift_of, work_of, entered, unit_of, left, counted}
 use Rattle.runs.specs.Views.{Released}
 use Rattle.runs.specs.Standing.{blocks, slot, Registered, chain_end, Sound, Standing, Outcome, Enters}
 use Rattle.runs.proofs.Chains.{distance_is, length_chained, chained_agree, chained_enters, chained_leaves, chain_moves}
@@ -129,8 +129,8 @@ module _ (mach : Machine) (m : Mode) (way : Way) (ivs us : List ℕ) (ok : Sound
     line_more f x line last =
         let deep = ok.deep in
         let e : D - 1 + 1 ≡ D = omega arith in
-        ap (λ r. r ++ x ∷ []) line ∙ ap (λ z. map f (range_with_len t (D - 1)) ++ z ∷ []) (sym last)
-        ∙ sym (map-range_with_len_more f t (D - 1) (t + (D - 1)) refl) ∙ ap (λ k. map f (range_with_len t k)) e
+        let more = map-range_with_len_more f t (D - 1) (t + (D - 1)) refl in
+        cc (line, last, more, e)
 
     -- nothing comes in
     pub joined_none : Joined mach m way ivs us base s h t past (mach.row ++ None ∷ []) v
@@ -154,9 +154,7 @@ module _ (mach : Machine) (m : Mode) (way : Way) (ivs us : List ℕ) (ok : Sound
     module _ (u : ℕ) (en : Enters mach m way us base s h t u) where
       -- the chain has what it asks for
       link_is : link_of m way v ≡ L (base + s)
-      link_is =
-          ap (λ k. get_or v.chain (link_place δ k) 0) pending_size ∙ ap (λ c. get_or c (link_place δ (s - h)) 0) st.links
-          ∙ at δ refl
+      link_is = let here = at δ refl in cc (pending_size, st.links, here)
         where
           at : (d : Option ℕ) → δ ≡ d → get_or (chain_at d (base + s) (base + h)) (link_place d (s - h)) 0 ≡ L (base + s)
           at None e = get_or-drop (base + s) (ivs ++ C (base + s)) 0 0 ∙ ap (λ k. get_or (ivs ++ C (base + s)) k 0) (omega arith)
@@ -187,19 +185,15 @@ module _ (mach : Machine) (m : Mode) (way : Way) (ivs us : List ℕ) (ok : Sound
             let positive = some_value in
             let kept : v.register ≡ R n = register_before (omega arith) ∙ ap R (omega arith) in
             let longer : R n ≡ register w ivs (C (suc n)) n = register_same w ivs (C n) (C (suc n)) n (λ j l. agree n (suc n) j (omega arith) (omega arith)) in
-            ap (λ x. cond (ltb x (row m).values) (link_of m way v) (shifted w v.register (link_of m way v))) taken
-            ∙ ap (λ x. cond (ltb (suc n) x) (link_of m way v) (shifted w v.register (link_of m way v))) (sym count)
-            ∙ ap (λ x. cond (ltb (suc n) (length ivs)) x (shifted w v.register x)) linked
-            ∙ ap (λ x. cond (ltb (suc n) (length ivs)) (L (suc n)) (shifted w x (L (suc n)))) (kept ∙ longer)
+            cc (taken, count, linked, kept, longer)
 
       shift_is : (row m).family ≡ CipherFeedback → shift_of m way v ≡ R (base + s)
       shift_is feedback = shift_at feedback (base + s) refl
 
       pub result_is : directed mach.forward mach.inverse (work_of m way v u).direction (work_of m way v u).block ≡ y (base + s)
       result_is =
-          ap (directed mach.forward mach.inverse (direction_by (row m).family way))
-          (ap (λ k. input_by (row m).family way k (link_of m way v) (shift_of m way v)) en.unit
-          ∙ input_same (row m).family way (get_or us (base + s) 0) _ _ _ _ link_is shift_is)
+          let input = input_same (row m).family way (get_or us (base + s) 0) _ _ _ _ link_is shift_is in
+          cc (en.unit, input)
 
       line_joined : mach.row ++ Some (y (base + s)) ∷ [] ≡ map (slot D δ (λ j. y (base + j)) (s + 1)) (range_with_len t D)
       line_joined =
@@ -223,14 +217,12 @@ module _ (mach : Machine) (m : Mode) (way : Way) (ivs us : List ℕ) (ok : Sound
       masks_entered : (entered m way v u).pending ≡ map mask (range_with_len (base + h) (s + 1 - h))
       masks_entered =
           let some = st.some in
-          ap (λ k. v.pending ++ mask_by (row m).family way k (link_of m way v) ∷ []) en.unit
-          ∙ ap (λ l. v.pending ++ mask_by (row m).family way (get_or us (base + s) 0) l ∷ []) link_is
-          ∙ ap (λ p. p ++ mask (base + s) ∷ []) st.masks
-          ∙ sym (map-range_with_len_more mask (base + h) (s - h) (base + s) (omega arith))
-          ∙ ap (λ k. map mask (range_with_len (base + h) k)) (omega arith)
+          let more = map-range_with_len_more mask (base + h) (s - h) (base + s) (omega arith) in
+          let longer : s + 1 - h ≡ s - h + 1 = omega arith in
+          cc (en.unit, link_is, st.masks, more, longer)
 
       links_entered : (entered m way v u).chain ≡ chain_at δ (base + (s + 1)) (base + h)
-      links_entered = ap (λ c. chain_entered δ c u) st.links ∙ at δ refl
+      links_entered = let here = at δ refl in cc (st.links, here)
         where
           at : (d : Option ℕ) → δ ≡ d → chain_entered d (chain_at d (base + s) (base + h)) u ≡ chain_at d (base + (s + 1)) (base + h)
           at None e =
@@ -326,16 +318,14 @@ module _ (mach : Machine) (m : Mode) (way : Way) (ivs us : List ℕ) (ok : Sound
       masks_split : v.pending ≡ mask (base + h) ∷ map mask (range_with_len (base + (h + 1)) (s - (h + 1)))
       masks_split =
           let e : s - h ≡ suc (s - (h + 1)) = omega arith in
-          jn.masks ∙ ap (λ k. map mask (range_with_len (base + h) k)) e ∙ ap (λ k. mask (base + h) ∷ map mask (range_with_len k (s - (h + 1)))) (omega arith)
+          let next : base + h + 1 ≡ base + (h + 1) = omega arith in
+          cc (jn.masks, e, next)
 
       unit_is : unit_of m way v (y (base + h)) ≡ unit (base + h)
       unit_is = ap (λ p. bit_xor (leftmost (row m).width (y (base + h))) (get_or p 0 0)) masks_split
 
       links_left : (left m way v (y (base + h))).chain ≡ chain_at δ (base + s) (base + (h + 1))
-      links_left =
-          ap (λ c. chain_left δ c (fed_back_by (row m).family (y (base + h)) (unit_of m way v (y (base + h))))) jn.links
-          ∙ ap (λ x. chain_left δ (chain_at δ (base + s) (base + h)) (fed_back_by (row m).family (y (base + h)) x)) unit_is
-          ∙ at δ refl
+      links_left = let here = at δ refl in cc (jn.links, unit_is, here)
         where
           at : (d : Option ℕ) → δ ≡ d
               → chain_left d (chain_at d (base + s) (base + h)) (fed_back_by (row m).family (y (base + h)) (unit (base + h))) ≡ chain_at d (base + s) (base + (h + 1))

@@ -1,5 +1,5 @@
 -- A whole run of two feeds, each with a drain.
-use Rattle.std.proofs.Common.{◌≡◌, ℕ, ◌+◌, ◌-◌, true, List, [], ◌++◌, length, take, drop, Ok, Err, Result, sym, refl, ap, ◌∙◌, arith}
+use Rattle.std.proofs.Common.{◌≡◌, ℕ, ◌+◌, ◌-◌, true, List, [], ◌++◌, length, drop, Ok, Err, Result, sym, refl, ap, ◌∙◌, arith}
 use Rattle.std.proofs.lemmas.List.{length-drop, append_assoc, append-nil}
 use Rattle.refusals.specs.declared.Refusal.{Refusal}
 use Rattle.engines.specs.Machines.{Machine, resting}
@@ -8,7 +8,7 @@ use Rattle.modes.specs.declared.way.Way.{Way}
 use Rattle.modes.specs.declared.order.Order.{Order}
 use Rattle.modes.specs.Table.{distance_of}
 use Rattle.calls.specs.Calls.{Answer, gave, refused, Calls, new, started, fed, drained, order_of, way_of, taken, handed_out, count_before}
-use Rattle.calls.specs.Due.{width_in, count_in, inside_in, refusal_to_feed, Follows}
+use Rattle.calls.specs.Due.{count_in, inside_in, Follows}
 use Rattle.calls.proofs.OpenRun.{balanced}
 use Rattle.runs.specs.declared.frame.Frame.{Frame}
 use Rattle.runs.specs.Standing.{SameEngine}
@@ -36,10 +36,7 @@ module _ (mach : Machine) (f : Frame) (calls : Calls true) (stands : Stands mach
       → feed_refusal f us room ≡ refusal_behind (order_of calls) (taken calls) us xs
   refused_behind us xs room left =
       let count : count_in calls ≡ length (taken calls) = omega arith in
-      sym (refusal_told mach f calls stands us room (gave []))
-      ∙ ap (λ n. refusal_to_feed n (width_in calls) (count_in calls) us room (gave [])) quiet
-      ∙ ap (λ n. refusal_to_feed 0 (width_in calls) n us room (gave [])) count
-      ∙ ap (λ n. refusal_to_feed 0 (width_in calls) (length (taken calls)) us n (gave [])) left
+      cc (refusal_told mach f calls stands us room (gave []), quiet, count, left)
 
   -- all units are out
   out_is_taken : length (handed_out calls) ≡ length (taken calls)

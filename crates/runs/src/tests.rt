@@ -13,7 +13,8 @@ use engines::work::Work;
 use modes::mode::Mode;
 use modes::order::Order;
 
-// The tests' crate has the like of it, but a crate of the product rests on none of tests, and no call gives a cartridge's engine out.
+// The crate engines_tests has the like of this engine and of `next` below, but by a rule of the project no crate of the product rests
+// on one of tests, and no call gives a cartridge's engine out.
 /// An engine around another that counts its cycles.
 #[derive(Drop)]
 struct Counting<E> {

@@ -16,7 +16,7 @@ use engines::engine::Engine;
 use modes::order::Order;
 use modes::values::InitialValues;
 
-// The chain with which a run begins. The kit's ways to make such a vector of a list may fail or are longer than these pushes.
+// The chain with which a run begins. Pushes, since `try_extend_from_slice` may fail, and to handle that is no plainer.
 fn first_links(values: InitialValues) -> Queue
     ensures { result.items ≡ listed values }
 {

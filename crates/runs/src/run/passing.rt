@@ -8,7 +8,8 @@ ghost use Rattle.runs.specs.Handing.{written, Behind, Passes, Idles, Waits, Onwa
 use super::Run;
 use engines::engine::Engine;
 
-// Writes a unit that came out first in the list, and says how many that is.
+// Writes a unit that came out first in the list, and says how many that is. A match, since `map_or` would write to the list from
+// within a closure, which is no plainer.
 fn put(out: &mut [u64], unit: Option<u64>) -> usize
     requires { one_if unit ≤ length out.old }
     ensures after { out.new ≡ written out.old 0 unit }

@@ -1,7 +1,7 @@
 use Rattle.std.proofs.Common.{◌∙◌}
 use Rattle.runs.specs.Steps.{counted}
 use Rattle.runs.specs.Views.{view}
-use Rattle.runs.proofs.Cycles.{turned_same, cycled, released_at}
+use Rattle.runs.proofs.Cycles.{cycled, released_at}
 use Rattle.runs.proofs.run.Run.cycle.Goals as goal
 
 pub returns-clause-cycled : goal.returns-clause-cycled
