@@ -1,5 +1,7 @@
 //! Feeding a run.
 ghost use Rattle.std.specs.Prelude.{◌≡◌, ◌+◌, ◌≤◌, length, IfOk, OnErr};
+ghost use Rattle.modes.specs.Table.{row};
+ghost use Rattle.modes.specs.Widths.{first_wide};
 ghost use Rattle.runs.specs.Views.{MayTake, HasRoom};
 ghost use Rattle.runs.specs.Stands.{of_run};
 ghost use Rattle.runs.specs.Handing.{Fed, feed_refusal, refusal_in, Pumps, Onward, Same};
@@ -7,7 +9,15 @@ ghost use Rattle.runs.specs.Handing.{Fed, feed_refusal, refusal_in, Pumps, Onwar
 use super::Run;
 use calls::UNIT_LIMIT;
 use engines::engine::Engine;
+use modes::mode::Mode;
 use refusals::Refusal;
+
+/// The index of the first unit that is too wide for the mode.
+fn first_too_wide(mode: Mode, units: &[u64]) -> Option<usize>
+    ensures { result ≡ first_wide (row mode).width 0 units.now }
+{
+    units.iter().position(|unit| !mode.admits(*unit))
+}
 
 impl<E: Engine, W> Run<E, W> {
     /// Each unit enters in its cycle, and what comes out is written.
@@ -41,7 +51,7 @@ impl<E: Engine, W> Run<E, W> {
         if out.len() < wanted {
             return Err(Refusal::OutputLength(wanted));
         }
-        if let Some(index) = self.frame.mode.first_too_wide(units.iter().copied()) {
+        if let Some(index) = first_too_wide(self.frame.mode, units) {
             return Err(Refusal::UnitWidth(index));
         }
         let left = UNIT_LIMIT - (self.frame.before + self.frame.taken);

@@ -1,18 +1,8 @@
-use Rattle.std.proofs.Common.{◌≡◌, ℕ, ◌+◌, List, [], length, sym, refl, ap, subst, arith, rules}
-use Rattle.std.specs.Iterator.{AlwaysYields}
-use Rattle.std.specs.Iterator.Adapters.{copied_source}
-use Rattle.std.specs.Slice.Iter.{iter_rest}
-use Rattle.std.specs.declared.iter.Copied.{Copied}
-use Rattle.std.proofs.Common.{Iter}
-use Rattle.std.proofs.iter.Yields.{copies, fronts, Copied-slice}
+use Rattle.std.proofs.Common.{◌+◌, [], length, sym, refl, ap, arith}
 use Rattle.modes.specs.Table.{row}
 use Rattle.calls.specs.Calls.{gave}
 use Rattle.runs.proofs.FeedReplies.{refuses_room, refuses_wide, refuses_many, accepts, feed_refused, feed_taken}
 use Rattle.runs.proofs.run.Run.feed.Goals as goal
-
--- an iterator over copies of a list gives the list
-yields : (s : Copied (Iter ℕ)) (us : List ℕ) → iter_rest (copied_source s) ≡ us → AlwaysYields (copies fronts) (λ u. u) s us
-yields s us e = subst (AlwaysYields (copies fronts) (λ u. u) s) e (Copied-slice s)
 
 pub returns-then-out-wanted : goal.returns-then-out-wanted
 returns-then-out-wanted g c =
@@ -38,7 +28,7 @@ returns-in-Some g c =
     let us = c.args.units.now in
     let xs = c.args.out.now in
     let no = refuses_wide (length f.pending.items) (row f.mode).width (f.before + f.taken) us (length xs)
-    (omega (arith, c.if-out-wanted.false, c.len.ensures.value)) c.in-Some.index (sym (c.in-Some.ensures us (yields c.copied.result us (search rules)))) in
+    (omega (arith, c.if-out-wanted.false, c.len.ensures.value)) c.in-Some.index (sym c.in-Some.ensures) in
     record {
       answered = feed_refused (g.E.Engine.machine run.engine) f us xs _ no;
       refusal = sym (no (gave []));
@@ -56,7 +46,7 @@ returns-then-left-units g c =
     let xs = c.args.out.now in
     let within = f.within in
     let no = refuses_many (length f.pending.items) (row f.mode).width (f.before + f.taken) us (length xs)
-    (omega (arith, c.if-out-wanted.false, c.len.ensures.value)) (sym (c.in_default.ensures us (yields c.copied.result us (search rules)))) (omega (arith, c.if-left-units.true)) in
+    (omega (arith, c.if-out-wanted.false, c.len.ensures.value)) (sym c.in_default.ensures) (omega (arith, c.if-left-units.true)) in
     record {
       answered = feed_refused (g.E.Engine.machine run.engine) f us xs _ no;
       refusal = sym (no (gave []));
@@ -76,7 +66,7 @@ returns g c =
     let p = c.pump in
     let within = f.within in
     let yes = accepts (length f.pending.items) (row f.mode).width (f.before + f.taken) us (length xs)
-    (omega (arith, c.if-out-wanted.false, c.len.ensures.value)) (sym (c.in_default.ensures us (yields c.copied.result us (search rules)))) (omega (arith, c.if-left-units.false)) in
+    (omega (arith, c.if-out-wanted.false, c.len.ensures.value)) (sym c.in_default.ensures) (omega (arith, c.if-left-units.false)) in
     record {
       answered = feed_taken (mach run.engine) (mach p.new.self.engine) f p.new.self.frame us xs p.new.out p.result
           p.ensures.onward.engine yes p.ensures.pumped;
