@@ -1,31 +1,22 @@
 //! A record under triple DEA, block by block.
+use crate::blocks::{blocks_of, bytes_of};
 use crate::loading::load_bundle;
-use crate::record::{BLOCKS, RECORD, blocks_of, bytes_of};
-use crate::shown::text_of;
-use anyhow::anyhow;
+use crate::shown::Text;
+use anyhow::Context;
+use cipher::Cipher;
 use cipher::dea::known::{substitution_row, worked_values};
-use cipher::{Block, Cipher};
+
+/// A settlement record: from branch 0417 to branch 0993, an amount in euro.
+const RECORD: [u8; 48] = *b"SETTLE 0417>0993 2026-11-17 EUR 000000012500.00;";
 
 /// What the tables are known to hold.
 pub fn show_tables(rt: &HostRuntime) -> anyhow::Result<()> {
-    let values = worked_values();
-    println!(rt; "{values} worked values of the cipher are proved")?;
-    let Some(row) = substitution_row(0) else {
-        return Err(anyhow!("no first row"));
-    };
+    println!(rt;
+        "{} worked values of the cipher are proved",
+        worked_values()
+    )?;
+    let row = substitution_row(0).context("no first row")?;
     println!(rt; "S box 1, row 0, holds 0 to 15 once each: {row:?}")?;
-    Ok(())
-}
-
-fn print_block(
-    rt: &HostRuntime,
-    i: usize,
-    plain: Block,
-    sent: Block,
-    received: Block,
-) -> anyhow::Result<()> {
-    let number = i.saturating_add(1);
-    println!(rt; "block {number}: {plain:016X} enciphered {sent:016X} deciphered {received:016X}")?;
     Ok(())
 }
 
@@ -33,16 +24,20 @@ fn print_block(
 pub fn show(rt: &HostRuntime) -> anyhow::Result<()> {
     let heap = rt.alloc();
     let triple = load_bundle(rt)?.into_cipher();
-    let plain = blocks_of(&RECORD);
-    rt.println(text_of(heap, &RECORD)?)?;
-    let mut received = [0; BLOCKS];
-    for i in 0..BLOCKS {
-        let sent = triple.forward(plain[i]);
-        received[i] = triple.inverse(sent);
-        print_block(rt, i, plain[i], sent, received[i])?;
+    println!(rt; "{}", Text(&RECORD))?;
+    let mut received = Vec::new(heap);
+    for (i, plain) in blocks_of(heap, &RECORD)?.iter().enumerate() {
+        let sent = triple.forward(*plain);
+        let back = triple.inverse(sent);
+        println!(rt;
+            "block {}: {plain:016X} enciphered {sent:016X} deciphered {back:016X}",
+            i + 1
+        )?;
+        received.push(back)?;
     }
-    rt.println(text_of(heap, &bytes_of(&received))?)?;
-    if received == plain {
+    let received = bytes_of(heap, &received)?;
+    println!(rt; "{}", Text(&received))?;
+    if received.as_slice() == RECORD.as_slice() {
         rt.println("the record came back unchanged")?;
     } else {
         rt.println("the record did not come back")?;

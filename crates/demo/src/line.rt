@@ -1,12 +1,10 @@
 //! The line, cycle by cycle.
-use crate::loading::load_bundle;
+use crate::loading::{load_line, load_plain};
 use cipher::Block;
 use engines::engine::Engine;
-use engines::line::Line;
-use engines::plain::Plain;
 use engines::table::{BlockState, Stage};
 use engines::work::{Direction, Work};
-use std::io;
+use std::fmt;
 
 // Two blocks in a row, a gap, one of each direction in a row, and empty cycles until all are out.
 const INPUTS: [Option<Work>; 8] = [
@@ -32,63 +30,86 @@ const INPUTS: [Option<Work>; 8] = [
     None,
 ];
 
-fn show_block(rt: &HostRuntime, state: BlockState) -> io::Result<()> {
-    match state.block() {
-        Some(block) => print!(rt; "  {block:016X}"),
-        None => print!(rt; "  idle            "),
+// What goes into the line in a cycle.
+#[derive(Clone, Copy)]
+struct Input(Option<Work>);
+
+impl fmt::Display for Input {
+    fn fmt<W: fmt::Write>(&self, f: &mut fmt::Formatter<W>) -> fmt::Result {
+        let Some(Work { block, direction }) = self.0 else {
+            return write!(f, "nothing                 ");
+        };
+        match direction {
+            Direction::Forward => write!(f, "forward {block:016X}"),
+            Direction::Inverse => write!(f, "inverse {block:016X}"),
+        }
     }
 }
 
-fn show_input(rt: &HostRuntime, input: Option<Work>) -> io::Result<()> {
-    match input {
-        Some(
-            Work {
-                block,
-                direction: Direction::Forward,
-            },
-        ) => print!(rt; "forward {block:016X}"),
-        Some(
-            Work {
-                block,
-                direction: Direction::Inverse,
-            },
-        ) => print!(rt; "inverse {block:016X}"),
-        None => print!(rt; "nothing                 "),
+// What stands in a functional block.
+#[derive(Clone, Copy)]
+struct State(BlockState);
+
+impl fmt::Display for State {
+    fn fmt<W: fmt::Write>(&self, f: &mut fmt::Formatter<W>) -> fmt::Result {
+        match self.0.block() {
+            Some(block) => write!(f, "{block:016X}"),
+            None => write!(f, "idle            "),
+        }
     }
 }
 
-fn show_answer(rt: &HostRuntime, answer: Option<Block>, wanted: Option<Block>) -> io::Result<()> {
-    if answer != wanted {
-        return println!(rt; "  NOT what the triple gives");
+// What comes out, beside what the triple gives.
+#[derive(Clone, Copy)]
+struct Output {
+    answer: Option<Block>,
+    wanted: Option<Block>,
+}
+
+impl fmt::Display for Output {
+    fn fmt<W: fmt::Write>(&self, f: &mut fmt::Formatter<W>) -> fmt::Result {
+        if self.answer != self.wanted {
+            return write!(f, "NOT what the triple gives");
+        }
+        match self.answer {
+            Some(block) => write!(f, "{block:016X}, as the triple"),
+            None => write!(f, "nothing"),
+        }
     }
-    match answer {
-        Some(block) => println!(rt; "  {block:016X}, as the triple"),
-        None => println!(rt; "  nothing"),
+}
+
+/// What the triple answers to the inputs, two cycles late.
+fn wanted(rt: &HostRuntime) -> anyhow::Result<Vec<Option<Block>>> {
+    let mut triple = load_plain(rt)?;
+    let mut wanted = vec![in rt.alloc(); None; 2]?;
+    for input in INPUTS {
+        wanted.push(triple.clock(input))?;
     }
+    Ok(wanted)
 }
 
 /// The line of the example's three keys at work. For each cycle: what goes in, what then stands in each functional block, what comes
 /// out, and whether that is what the triple itself answered two cycles before.
 pub fn show(rt: &HostRuntime) -> anyhow::Result<()> {
-    let (first, second, third) = load_bundle(rt)?.into_ciphers();
-    let mut line = Line::new(first, second, third);
-    let mut triple = Plain::new(load_bundle(rt)?.into_cipher());
-    let mut before = None;
-    let mut last = None;
+    let mut line = load_line(rt)?;
+    let wanted = wanted(rt)?;
     println!(rt;
         "    in                        first             second            third             out"
     )?;
-    for (cycle, input) in INPUTS.iter().enumerate() {
-        let number = cycle + 1;
-        print!(rt; "{number:>2}  ")?;
-        show_input(rt, *input)?;
+    for ((cycle, input), wanted) in INPUTS.iter().enumerate().zip(&wanted) {
         let answer = line.clock(*input);
-        show_block(rt, line.state(Stage::First))?;
-        show_block(rt, line.state(Stage::Second))?;
-        show_block(rt, line.state(Stage::Third))?;
-        show_answer(rt, answer, before)?;
-        before = last;
-        last = triple.clock(*input);
+        println!(rt;
+            "{:>2}  {}  {}  {}  {}  {}",
+            cycle + 1,
+            Input(*input),
+            State(line.state(Stage::First)),
+            State(line.state(Stage::Second)),
+            State(line.state(Stage::Third)),
+            Output {
+                answer,
+                wanted: *wanted
+            }
+        )?;
     }
     Ok(())
 }

@@ -1,11 +1,11 @@
 //! What the core does, for a person at the bench, up to a settlement file that travels over a bad line.
 #![tactic(auto)]
 
+mod blocks;
 mod ciphering;
 mod line;
 mod loading;
 mod mode_table;
-mod record;
 mod records;
 mod settlement;
 mod shown;

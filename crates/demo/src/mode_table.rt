@@ -5,11 +5,12 @@ use modes::reach::Reach;
 use modes::values::InitialValues;
 use modes::way::Way;
 use modes::worked::worked_values;
+use refusals::Refusal;
 use std::{fmt, io};
 
 /// Three initial values, eight bytes each.
 #[rattlefmt::skip]
-const VALUES: [u8; 24] = [
+pub const VALUES: [u8; 24] = [
     0x12, 0x34, 0x56, 0x78, 0x90, 0xAB, 0xCD, 0xEF,
     0x67, 0x89, 0xAB, 0xCD, 0xE6, 0x01, 0x23, 0x44,
     0xBC, 0xDF, 0x01, 0x23, 0x3B, 0x56, 0x78, 0x99,
@@ -36,73 +37,81 @@ impl fmt::Display for ReachOfD {
     fn fmt<W: fmt::Write>(&self, f: &mut fmt::Formatter<W>) -> fmt::Result {
         match self.0 {
             None => write!(f, "none"),
-            Some(reach) => {
-                let first = reach.first;
-                let last = reach.last;
-                if first == last {
-                    write!(f, "d+{first}")
-                } else {
-                    write!(f, "d+{first} to d+{last}")
+            Some(Reach { first, last }) if first == last => write!(f, "d+{first}"),
+            Some(Reach { first, last }) => write!(f, "d+{first} to d+{last}"),
+        }
+    }
+}
+
+// What answers an opening.
+#[derive(Clone, Copy)]
+struct Opening(Result<Order, Refusal>);
+
+impl fmt::Display for Opening {
+    fn fmt<W: fmt::Write>(&self, f: &mut fmt::Formatter<W>) -> fmt::Result {
+        match self.0 {
+            Ok(order) => {
+                let name = order.mode().name();
+                match order.initial_values() {
+                    InitialValues::Empty => write!(f, "{name}"),
+                    InitialValues::One(a) => write!(f, "{name} {a:016X}"),
+                    InitialValues::Three(a, b, c) => {
+                        write!(f, "{name} {a:016X} {b:016X} {c:016X}")
+                    }
                 }
             }
+            Err(refusal) => write!(
+                f,
+                "refused {} {}: {refusal}",
+                refusal.number(),
+                refusal.detail()
+            ),
         }
     }
 }
 
 // One line of the table.
 fn show_mode(rt: &HostRuntime, mode: Mode) -> io::Result<()> {
-    let code = mode.code();
-    let name = mode.name();
-    let width = mode.width();
-    let values = mode.initial_values();
-    let enciphering = Figure(mode.distance(Way::Enciphering));
-    let deciphering = Figure(mode.distance(Way::Deciphering));
-    let memory = Figure(mode.memory());
-    let reach = ReachOfD(mode.reach());
     println!(rt;
-        "{code:2} {name:6} width {width:2}, initial values {values}, distance {enciphering} / {deciphering}, memory {memory}, reach {reach}"
+        "{:2} {:6} width {:2}, initial values {}, distance {} / {}, memory {}, reach {}",
+        mode.code(),
+        mode.name(),
+        mode.width(),
+        mode.initial_values(),
+        Figure(mode.distance(Way::Enciphering)),
+        Figure(mode.distance(Way::Deciphering)),
+        Figure(mode.memory()),
+        ReachOfD(mode.reach())
     )
 }
 
 // An opening, and the order or the refusal that answers it.
 fn show_opening(rt: &HostRuntime, code: u8, bytes: &[u8]) -> io::Result<()> {
-    let length = bytes.len();
-    print!(rt; "code {code:2}, {length:2} bytes: ")?;
-    match Order::check(code, bytes) {
-        Ok(order) => {
-            let name = order.mode().name();
-            match order.initial_values() {
-                InitialValues::Empty => println!(rt; "{name}"),
-                InitialValues::One(a) => println!(rt; "{name} {a:016X}"),
-                InitialValues::Three(a, b, c) => println!(rt; "{name} {a:016X} {b:016X} {c:016X}"),
-            }
-        }
-        Err(refusal) => {
-            let number = refusal.number();
-            let detail = refusal.detail();
-            println!(rt; "refused {number} {detail}: {refusal}")
-        }
-    }
+    println!(rt;
+        "code {code:2}, {:2} bytes: {}",
+        bytes.len(),
+        Opening(Order::check(code, bytes))
+    )
 }
 
 pub fn show(rt: &HostRuntime) -> io::Result<()> {
     println!(rt; "the modes:")?;
-    for code in 0..=12u8 {
-        if let Some(mode) = Mode::from_code(code) {
-            show_mode(rt, mode)?;
-        }
+    for mode in (0..=12).filter_map(Mode::from_code) {
+        show_mode(rt, mode)?;
     }
     println!(rt; "")?;
     println!(rt; "openings:")?;
     show_opening(rt, 1, &[])?;
-    show_opening(rt, 5, &VALUES[0..8])?;
+    show_opening(rt, 5, &VALUES[..8])?;
     show_opening(rt, 11, &VALUES)?;
     show_opening(rt, 0, &[])?;
     show_opening(rt, 12, &VALUES)?;
-    show_opening(rt, 1, &VALUES[0..8])?;
-    show_opening(rt, 3, &VALUES[0..8])?;
-    show_opening(rt, 10, &VALUES[0..7])?;
+    show_opening(rt, 1, &VALUES[..8])?;
+    show_opening(rt, 3, &VALUES[..8])?;
+    show_opening(rt, 10, &VALUES[..7])?;
     println!(rt; "")?;
-    let worked = worked_values();
-    println!(rt; "{worked} worked values of the shift and the schedule are proved")
+    println!(rt;
+        "{} worked values of the shift and the schedule are proved",
+        worked_values()
+    )
 }

@@ -1,25 +1,31 @@
 //! Bytes as a person reads them.
-use std::alloc::{AllocError, Global};
+use std::fmt;
 
-/// A line of bytes in hexadecimal.
-pub fn print_bytes(rt: &HostRuntime, label: &str, bytes: &[u8]) -> anyhow::Result<()> {
-    rt.print(label)?;
-    for byte in bytes {
-        print!(rt; "{byte:02X}")?;
+/// Bytes in hexadecimal.
+#[derive(Clone, Copy)]
+pub struct Hexadecimal<'a>(pub &'a [u8]);
+
+impl fmt::Display for Hexadecimal<'_> {
+    fn fmt<W: fmt::Write>(&self, f: &mut fmt::Formatter<W>) -> fmt::Result {
+        for byte in self.0 {
+            write!(f, "{byte:02X}")?;
+        }
+        Ok(())
     }
-    println!(rt; "")?;
-    Ok(())
 }
 
 /// The characters of ASCII bytes; a dot for any other byte.
-pub fn text_of(heap: Global, bytes: &[u8]) -> Result<String, AllocError> {
-    let mut text = String::new(heap);
-    for byte in bytes {
-        text.push(if *byte >= 32 && *byte < 127 {
-            *byte as char
-        } else {
-            '.'
-        })?;
+#[derive(Clone, Copy)]
+pub struct Text<'a>(pub &'a [u8]);
+
+impl fmt::Display for Text<'_> {
+    fn fmt<W: fmt::Write>(&self, f: &mut fmt::Formatter<W>) -> fmt::Result {
+        for byte in self.0 {
+            match *byte {
+                b' '..=b'~' => f.write_char(char::from(*byte))?,
+                _ => f.write_char('.')?,
+            }
+        }
+        Ok(())
     }
-    Ok(text)
 }

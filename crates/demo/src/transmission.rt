@@ -1,185 +1,191 @@
 //! A settlement file on its way: enciphered on the line, damaged, and received on an engine of another depth.
-use crate::loading::load_bundle;
-use crate::records::UNITS;
-use cipher::dea::Dea;
-use cipher::triple::Triple;
+ghost use Rattle.std.specs.Prelude.{◌<◌};
+
+use crate::loading::{load_line, load_plain};
 use engines::engine::Engine;
-use engines::line::Line;
-use engines::plain::Plain;
+use modes::mode::Mode;
 use modes::order::Order;
-use refusals::Refusal;
+use modes::way::Way;
 use runs::cartridge::Cartridge;
 use runs::ends::units_on_the_way;
 use runs::run::{DecipheringRun, EncipheringRun, Run};
+use std::alloc::{AllocError, Global};
+use std::fmt;
 
-/// Units of the file, of which the first `count` are there.
-#[derive(Clone, Copy)]
-pub struct Units {
-    pub all: [u64; UNITS],
-    pub count: usize,
-}
+/// Places for what one call hands out.
+const PLACES: usize = 36;
 
-impl Units {
-    pub fn none() -> Units {
-        Units {
-            all: [0; UNITS],
-            count: 0,
-        }
-    }
-
-    fn push(&mut self, unit: u64) {
-        if self.count < UNITS {
-            self.all[self.count] = unit;
-            self.count += 1;
-        }
-    }
-}
-
-/// What a run tells.
+/// What a run tells, with what the formula for its cycles asks.
 #[derive(Clone, Copy)]
 pub struct Accounts {
-    pub taken: usize,
-    pub handed_out: usize,
-    pub inside: usize,
-    pub cycles: u64,
+    depth: usize,
+    distance: Option<usize>,
+    taken: usize,
+    handed_out: usize,
+    inside: usize,
+    cycles: u64,
 }
 
 impl Accounts {
-    fn of<E: Engine, W>(run: &Run<E, W>) -> Accounts {
+    fn of<E: Engine, W>(run: &Run<E, W>, distance: Option<usize>) -> Accounts {
         Accounts {
+            depth: E::DEPTH,
+            distance,
             taken: run.units_taken(),
             handed_out: run.units_handed_out(),
             inside: run.units_inside(),
             cycles: run.cycles(),
         }
     }
+
+    /// The cycles that the formula gives for the units taken, once they are drained.
+    fn cycles_by_formula(&self) -> usize {
+        let waited = self.distance.map_or(0, |distance| {
+            let waits = self.taken.saturating_sub(1).checked_div(distance);
+            let each = self.depth.saturating_sub(distance);
+            waits.unwrap_or(0).saturating_mul(each)
+        });
+        self.taken
+            .saturating_add(waited)
+            .saturating_add(self.depth.saturating_sub(1))
+    }
+}
+
+impl fmt::Display for Accounts {
+    fn fmt<W: fmt::Write>(&self, f: &mut fmt::Formatter<W>) -> fmt::Result {
+        write!(
+            f,
+            "depth {}: taken {}, handed out {}, inside {}, cycles {}, by the formula {}",
+            self.depth,
+            self.taken,
+            self.handed_out,
+            self.inside,
+            self.cycles,
+            self.cycles_by_formula()
+        )
+    }
+}
+
+/// What the leased line does: it flips a bit of one unit and loses another. Places count from 0.
+#[derive(Clone, Copy)]
+pub struct Damage {
+    pub flipped: usize,
+    pub lost: usize,
+}
+
+impl Damage {
+    /// The units that arrive of those that are sent.
+    fn travel(&self, heap: Global, sent: &[u64]) -> Result<Vec<u64>, AllocError> {
+        sent.iter()
+            .enumerate()
+            .filter(|(place, _)| *place != self.lost)
+            .map(|(place, unit)| {
+                if place == self.flipped {
+                    *unit ^ 0x20
+                } else {
+                    *unit
+                }
+            })
+            .collect(heap)
+    }
+
+    /// What was received for each sent unit; none for the lost one.
+    pub fn arrivals(&self, heap: Global, received: &[u64]) -> Result<Vec<Option<u64>>, AllocError> {
+        let before = received.iter().take(self.lost);
+        let after = received.iter().skip(self.lost);
+        before
+            .map(|unit| Some(*unit))
+            .chain([None])
+            .chain(after.map(|unit| Some(*unit)))
+            .collect(heap)
+    }
 }
 
 /// All that happened.
-#[derive(Clone, Copy)]
+#[derive(Drop)]
 pub struct Transmission {
-    pub sent: Units,
-    pub received: Units,
+    pub sent: Vec<u64>,
+    pub received: Vec<u64>,
     pub on_the_way: usize,
     pub sender: Accounts,
     pub receiver: Accounts,
-    pub refused: Option<Refusal>,
 }
 
-/// Feeds some units, and puts what is handed out behind the units that are there.
-fn feed<E: Engine, W>(
+/// Both ends of the line, with their runs open at once.
+struct Ends<S, R> {
+    sending: EncipheringRun<S>,
+    receiving: DecipheringRun<R>,
+    mode: Mode,
+}
+
+impl<S: Engine + Drop, R: Engine + Drop> Ends<S, R> {
+    fn open(sender: S, receiver: R, order: Order) -> Self {
+        Ends {
+            sending: Cartridge::new(sender).start_enciphering(order),
+            receiving: Cartridge::new(receiver).start_deciphering(order),
+            mode: order.mode(),
+        }
+    }
+
+    /// The file goes in by nine units at a time. What arrives is fed as it comes.
+    fn transmit(
+        &mut self,
+        heap: Global,
+        file: &[u64],
+        damage: Damage,
+    ) -> anyhow::Result<Transmission> {
+        let sent = pass(heap, &mut self.sending, file, 9)?;
+        let arriving = damage.travel(heap, &sent)?;
+        let received = pass(heap, &mut self.receiving, &arriving, 1)?;
+        Ok(Transmission {
+            sent,
+            received,
+            on_the_way: units_on_the_way(&self.sending, &self.receiving),
+            sender: Accounts::of(&self.sending, self.mode.distance(Way::Enciphering)),
+            receiver: Accounts::of(&self.receiving, self.mode.distance(Way::Deciphering)),
+        })
+    }
+
+    fn close(self) {
+        let Ends {
+            sending,
+            receiving,
+            mode: _,
+        } = self;
+        drop(sending.close());
+        drop(receiving.close());
+    }
+}
+
+/// Feeds units, so many at a time, and drains the run. Answers what is handed out.
+fn pass<E: Engine, W>(
+    heap: Global,
     run: &mut Run<E, W>,
     units: &[u64],
-    handed_out: &mut Units,
-) -> Option<Refusal> {
-    let mut out = [0; UNITS];
-    match run.feed(units, &mut out) {
-        Ok(count) => {
-            push_all(handed_out, &out, count);
-            None
-        }
-        Err(refusal) => Some(refusal),
+    at_once: usize,
+) -> anyhow::Result<Vec<u64>>
+    requires { 0 < at_once }
+{
+    let mut handed_out = Vec::new(heap);
+    let mut out = [0; PLACES];
+    for part in units.chunks(at_once) {
+        let count = run.feed(part, &mut out)?;
+        handed_out.extend_from_slice(&out[..count])?;
     }
-}
-
-fn drain<E: Engine, W>(run: &mut Run<E, W>, handed_out: &mut Units) -> Option<Refusal> {
-    let mut out = [0; UNITS];
-    match run.drain(&mut out) {
-        Ok(count) => {
-            push_all(handed_out, &out, count);
-            None
-        }
-        Err(refusal) => Some(refusal),
-    }
-}
-
-fn push_all(units: &mut Units, more: &[u64; UNITS], count: usize) {
-    for (i, unit) in more.iter().enumerate() {
-        if i < count {
-            units.push(*unit);
-        }
-    }
-}
-
-/// The file goes in by four feeds, and a drain.
-fn send<E: Engine>(
-    run: &mut EncipheringRun<E>,
-    file: &[u64; UNITS],
-    sent: &mut Units,
-) -> Option<Refusal> {
-    let a = feed(run, &file[0..5], sent);
-    let b = feed(run, &file[5..12], sent);
-    let c = feed(run, &file[12..24], sent);
-    let d = feed(run, &file[24..36], sent);
-    a.or(b).or(c).or(d).or(drain(run, sent))
-}
-
-/// What arrives is fed as it comes, and drained.
-fn receive<E: Engine>(
-    run: &mut DecipheringRun<E>,
-    arriving: &Units,
-    received: &mut Units,
-) -> Option<Refusal> {
-    let mut refused = None;
-    for (i, unit) in arriving.all.iter().enumerate() {
-        if i < arriving.count {
-            refused = refused.or(feed(run, &[*unit], received));
-        }
-    }
-    refused.or(drain(run, received))
-}
-
-/// The leased line flips a bit of one unit and loses another. Places count from 0.
-fn travel(sent: &Units, flipped: usize, lost: usize) -> Units {
-    let mut arriving = Units::none();
-    for (i, unit) in sent.all.iter().enumerate() {
-        if i < sent.count && i != lost {
-            arriving.push(if i == flipped { *unit ^ 0x20 } else { *unit });
-        }
-    }
-    arriving
-}
-
-/// Both ends, with their runs open at once.
-fn transmit<S: Engine + Drop, R: Engine + Drop>(
-    sender: S,
-    receiver: R,
-    order: Order,
-    file: &[u64; UNITS],
-    flipped: usize,
-    lost: usize,
-) -> Transmission {
-    let mut sending = Cartridge::new(sender).start_enciphering(order);
-    let mut receiving = Cartridge::new(receiver).start_deciphering(order);
-    let mut sent = Units::none();
-    let mut received = Units::none();
-    let refused = send(&mut sending, file, &mut sent);
-    let arriving = travel(&sent, flipped, lost);
-    let refused = refused.or(receive(&mut receiving, &arriving, &mut received));
-    let transmission = Transmission {
-        sent,
-        received,
-        on_the_way: units_on_the_way(&sending, &receiving),
-        sender: Accounts::of(&sending),
-        receiver: Accounts::of(&receiving),
-        refused,
-    };
-    drop(sending.close());
-    drop(receiving.close());
-    transmission
+    let count = run.drain(&mut out)?;
+    handed_out.extend_from_slice(&out[..count])?;
+    Ok(handed_out)
 }
 
 /// The file under the example's keys: sent on the line, received on a plain engine over the triple.
 pub fn run(
     rt: &HostRuntime,
     order: Order,
-    file: &[u64; UNITS],
-    flipped: usize,
-    lost: usize,
+    file: &[u64],
+    damage: Damage,
 ) -> anyhow::Result<Transmission> {
-    let (first, second, third) = load_bundle(rt)?.into_ciphers();
-    let line: Line<Dea, Dea, Dea> = Line::new(first, second, third);
-    let (first, second, third) = load_bundle(rt)?.into_ciphers();
-    let plain = Plain::new(Triple::new(first, second, third));
-    Ok(transmit(line, plain, order, file, flipped, lost))
+    let mut ends = Ends::open(load_line(rt)?, load_plain(rt)?, order);
+    let transmission = ends.transmit(rt.alloc(), file, damage);
+    ends.close();
+    transmission
 }
