@@ -1,41 +1,29 @@
 //! What is drawn for the calls.
-ghost use Rattle.std.specs.Prelude.{◌<◌};
+ghost use Rattle.std.specs.Prelude.{◌<◌, ◌≤◌};
 
 use engines_tests::numbers::Numbers;
 use modes::mode::Mode;
 use modes::order::Order;
 use modes::way::Way;
+use std::array;
 
 /// Places in every output list.
 pub const PLACES: usize = 16;
-
-/// The most units of a feed.
-pub const UNITS: usize = 8;
 
 /// A number below `n`, or 0 where `n` is 0.
 pub fn pick(numbers: &mut Numbers, n: u64) -> u64
     ensures { 0 < n → result < n }
 {
     let drawn = numbers.draw() >> 33;
-    if n == 0 { 0 } else { drawn % n }
-}
-
-/// Three blocks, in bytes.
-fn draw_bytes(numbers: &mut Numbers) -> [u8; 24] {
-    let blocks = [numbers.draw(), numbers.draw(), numbers.draw()];
-    let mut bytes = [0u8; 24];
-    for i in 0..24 {
-        bytes[i] = blocks[i / 8].to_be_bytes()[i % 8];
-    }
-    bytes
+    drawn.checked_rem(n).unwrap_or(0)
 }
 
 /// An opening that is taken.
 pub fn draw_order(numbers: &mut Numbers) -> Option<Order> {
     let code = (1 + pick(numbers, 11)) as u8;
-    let bytes = draw_bytes(numbers);
+    let values: [[u8; 8]; 3] = array::from_fn(|_| numbers.draw().to_be_bytes());
     let mode = Mode::from_code(code)?;
-    Order::check(code, &bytes[0..8 * mode.initial_values()]).ok()
+    Order::check(code, values[..mode.initial_values()].as_flattened()).ok()
 }
 
 pub fn draw_way(numbers: &mut Numbers) -> Way {
@@ -56,24 +44,17 @@ fn draw_unit(numbers: &mut Numbers, mode: Mode) -> u64 {
     }
 }
 
-/// Units, of which the first so many are offered.
-pub fn draw_units(numbers: &mut Numbers, mode: Mode, count: usize) -> [u64; UNITS] {
-    let mut units = [0; UNITS];
-    for i in 0..UNITS {
-        if i < count {
-            units[i] = draw_unit(numbers, mode);
-        }
-    }
-    units
+/// Fills a list with units.
+pub fn draw_units(numbers: &mut Numbers, mode: Mode, units: &mut [u64]) {
+    units.fill_with(|| draw_unit(numbers, mode));
 }
 
 /// How long an output list is: mostly long enough.
 pub fn draw_room(numbers: &mut Numbers, seldom: u64) -> usize
-    ensures { result < 17 }
+    ensures { result ≤ PLACES }
 {
     if pick(numbers, 4) == 0 {
-        let room = pick(numbers, seldom) as usize;
-        if room < PLACES { room } else { PLACES }
+        PLACES.min(pick(numbers, seldom) as usize)
     } else {
         PLACES
     }
@@ -81,9 +62,5 @@ pub fn draw_room(numbers: &mut Numbers, seldom: u64) -> usize
 
 /// An output list in which every place is known.
 pub fn fresh_output() -> [u64; PLACES] {
-    let mut out = [0; PLACES];
-    for i in 0..PLACES {
-        out[i] = 0xA5A5_A5A5_A5A5_A5A5 ^ i as u64;
-    }
-    out
+    array::from_fn(|i| 0xA5A5_A5A5_A5A5_A5A5 ^ i as u64)
 }

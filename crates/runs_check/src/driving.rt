@@ -9,15 +9,16 @@ use modes::way::Way;
 use refusals::Refusal;
 use runs::cartridge::Cartridge;
 use runs::run::Run;
+use std::fmt;
 
 /// What happened on one cartridge.
-#[derive(Clone, Copy)]
+#[derive(Clone, Copy, Default)]
 pub struct Tally {
-    pub calls: u64,
-    pub refused: u64,
-    pub count: u64,
-    pub cycles: u64,
-    pub digest: Digest,
+    calls: u64,
+    refused: u64,
+    units: u64,
+    cycles: u64,
+    digest: Digest,
 }
 
 impl Tally {
@@ -27,7 +28,7 @@ impl Tally {
             Ok(handed_out) => self.digest.add(handed_out as u64),
             Err(refusal) => {
                 self.refused = self.refused.saturating_add(1);
-                self.digest.add(1000 + refusal.number() as u64);
+                self.digest.add(1000 + u64::from(refusal.number()));
                 self.digest.add(refusal.detail());
             }
         }
@@ -41,72 +42,77 @@ impl Tally {
     }
 }
 
-/// One feed or drain.
-fn call<E: Engine, W>(run: &mut Run<E, W>, mode: Mode, numbers: &mut Numbers, tally: &mut Tally) {
-    let mut out = fresh_output();
-    if pick(numbers, 4) == 3 {
-        let room = draw_room(numbers, 4);
-        let answer = run.drain(&mut out[0..room]);
-        tally.note(answer);
-    } else {
-        let count = pick(numbers, 8) as usize;
-        let room = draw_room(numbers, 16);
-        let units = draw_units(numbers, mode, count);
-        let answer = run.feed(&units[0..count], &mut out[0..room]);
-        tally.note(answer);
+impl fmt::Display for Tally {
+    fn fmt<W: fmt::Write>(&self, f: &mut fmt::Formatter<W>) -> fmt::Result {
+        write!(
+            f,
+            "calls {}, refused {}, units {}, cycles {}, digest {}",
+            self.calls, self.refused, self.units, self.cycles, self.digest
+        )
     }
-    tally.digest.add_all(&out);
-    tally.note_numbers(run);
 }
 
-/// A run of so many calls, and its closing.
-fn run_through<E: Engine, W: Drop>(
-    run: Run<E, W>,
-    mode: Mode,
-    numbers: &mut Numbers,
-    tally: &mut Tally,
-) -> Cartridge<E> {
-    let mut run = run;
-    let calls = 1 + pick(numbers, 8);
-    for _ in 0..calls {
-        call(&mut run, mode, numbers, tally);
-    }
-    tally.cycles = tally.cycles.saturating_add(run.cycles());
-    run.close()
+/// Makes the calls that it draws, and tallies what happens.
+#[derive(Drop)]
+struct Driver<'a> {
+    numbers: &'a mut Numbers,
+    tally: Tally,
 }
 
-fn open_and_run<E: Engine>(
-    cartridge: Cartridge<E>,
-    order: Order,
-    way: Way,
-    numbers: &mut Numbers,
-    tally: &mut Tally,
-) -> Cartridge<E> {
-    let mode = order.mode();
-    match way {
-        Way::Enciphering => run_through(cartridge.start_enciphering(order), mode, numbers, tally),
-        Way::Deciphering => run_through(cartridge.start_deciphering(order), mode, numbers, tally),
+impl Driver<'_> {
+    /// One feed or drain.
+    fn call<E: Engine, W>(&mut self, run: &mut Run<E, W>, mode: Mode) {
+        let mut out = fresh_output();
+        let answer = if pick(self.numbers, 4) == 3 {
+            let room = draw_room(self.numbers, 4);
+            run.drain(&mut out[..room])
+        } else {
+            let mut units = [0; 8];
+            let count = pick(self.numbers, 8) as usize;
+            let room = draw_room(self.numbers, 16);
+            let offered = &mut units[..count];
+            draw_units(self.numbers, mode, offered);
+            run.feed(offered, &mut out[..room])
+        };
+        self.tally.note(answer);
+        self.tally.digest.add_all(&out);
+        self.tally.note_numbers(run);
+    }
+
+    /// A run of so many calls, and its closing.
+    fn run_through<E: Engine, W: Drop>(&mut self, mut run: Run<E, W>, mode: Mode) -> Cartridge<E> {
+        let calls = 1 + pick(self.numbers, 8);
+        for _ in 0..calls {
+            self.call(&mut run, mode);
+        }
+        self.tally.cycles = self.tally.cycles.saturating_add(run.cycles());
+        run.close()
+    }
+
+    /// A run either way.
+    fn open_and_run<E: Engine>(&mut self, cartridge: Cartridge<E>, order: Order) -> Cartridge<E> {
+        let mode = order.mode();
+        match draw_way(self.numbers) {
+            Way::Enciphering => self.run_through(cartridge.start_enciphering(order), mode),
+            Way::Deciphering => self.run_through(cartridge.start_deciphering(order), mode),
+        }
     }
 }
 
 /// One to three runs on a new cartridge.
 pub fn drive<E: Engine + Drop>(engine: E, numbers: &mut Numbers) -> Tally {
-    let mut tally = Tally {
-        calls: 0,
-        refused: 0,
-        count: 0,
-        cycles: 0,
-        digest: Digest::new(),
-    };
     let mut cartridge = Cartridge::new(engine);
     let runs = 1 + pick(numbers, 3);
+    let mut driver = Driver {
+        numbers,
+        tally: Tally::default(),
+    };
     for _ in 0..runs {
-        if let Some(order) = draw_order(numbers) {
-            let way = draw_way(numbers);
-            cartridge = open_and_run(cartridge, order, way, numbers, &mut tally);
-            tally.digest.add(cartridge.count() as u64);
+        if let Some(order) = draw_order(driver.numbers) {
+            cartridge = driver.open_and_run(cartridge, order);
+            driver.tally.digest.add(cartridge.count() as u64);
         }
     }
-    tally.count = cartridge.count() as u64;
-    tally
+    driver.tally.units = cartridge.count() as u64;
+    driver.tally
 }

@@ -7,11 +7,11 @@ mod drawing;
 mod driving;
 
 use cipher::dea::Dea;
-use driving::{Tally, drive};
+use driving::drive;
 use engines::line::Line;
 use engines::plain::Plain;
 use engines_tests::numbers::Numbers;
-use std::io;
+use std::{array, io};
 
 /// How many cartridges there are, each with its list of calls.
 const LISTS: u32 = 400;
@@ -22,23 +22,10 @@ fn main(rt: HostRuntime) -> io::Result<()> {
         let tally = if list % 2 == 0 {
             drive(Plain::new(Dea::new(numbers.draw())), &mut numbers)
         } else {
-            let first = Dea::new(numbers.draw());
-            let second = Dea::new(numbers.draw());
-            let third = Dea::new(numbers.draw());
+            let [first, second, third]: [Dea; 3] = array::from_fn(|_| Dea::new(numbers.draw()));
             drive(Line::new(first, second, third), &mut numbers)
         };
-        print_tally(&rt, list, tally)?;
+        println!(&rt; "list {list}: {tally}")?;
     }
     Ok(())
-}
-
-fn print_tally(rt: &HostRuntime, list: u32, tally: Tally) -> io::Result<()> {
-    let calls = tally.calls;
-    let refused = tally.refused;
-    let count = tally.count;
-    let cycles = tally.cycles;
-    let digest = tally.digest.value();
-    println!(rt;
-        "list {list}: calls {calls}, refused {refused}, units {count}, cycles {cycles}, digest {digest:016X}"
-    )
 }
