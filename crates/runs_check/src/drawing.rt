@@ -5,6 +5,7 @@ use engines_tests::numbers::Numbers;
 use modes::mode::Mode;
 use modes::order::Order;
 use modes::way::Way;
+use refusals::Refusal;
 use std::array;
 
 /// Places in every output list.
@@ -19,11 +20,11 @@ pub fn pick(numbers: &mut Numbers, n: u64) -> u64
 }
 
 /// An opening that is taken.
-pub fn draw_order(numbers: &mut Numbers) -> Option<Order> {
+pub fn draw_order(numbers: &mut Numbers) -> Result<Order, Refusal> {
     let code = (1 + pick(numbers, 11)) as u8;
     let values: [[u8; 8]; 3] = array::from_fn(|_| numbers.draw().to_be_bytes());
-    let mode = Mode::from_code(code)?;
-    Order::check(code, values[..mode.initial_values()].as_flattened()).ok()
+    let mode = Mode::from_code(code).ok_or(Refusal::UnknownCode(code))?;
+    Order::check(code, values[..mode.initial_values()].as_flattened())
 }
 
 pub fn draw_way(numbers: &mut Numbers) -> Way {

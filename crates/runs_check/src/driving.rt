@@ -100,7 +100,7 @@ impl Driver<'_> {
 }
 
 /// One to three runs on a new cartridge.
-pub fn drive<E: Engine + Drop>(engine: E, numbers: &mut Numbers) -> Tally {
+pub fn drive<E: Engine + Drop>(engine: E, numbers: &mut Numbers) -> Result<Tally, Refusal> {
     let mut cartridge = Cartridge::new(engine);
     let runs = 1 + pick(numbers, 3);
     let mut driver = Driver {
@@ -108,11 +108,10 @@ pub fn drive<E: Engine + Drop>(engine: E, numbers: &mut Numbers) -> Tally {
         tally: Tally::default(),
     };
     for _ in 0..runs {
-        if let Some(order) = draw_order(driver.numbers) {
-            cartridge = driver.open_and_run(cartridge, order);
-            driver.tally.digest.add(cartridge.count() as u64);
-        }
+        let order = draw_order(driver.numbers)?;
+        cartridge = driver.open_and_run(cartridge, order);
+        driver.tally.digest.add(cartridge.count() as u64);
     }
     driver.tally.units = cartridge.count() as u64;
-    driver.tally
+    Ok(driver.tally)
 }
