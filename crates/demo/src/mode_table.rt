@@ -96,7 +96,7 @@ fn show_opening(rt: &HostRuntime, code: u8, bytes: &[u8]) -> io::Result<()> {
 
 pub fn show(rt: &HostRuntime) -> io::Result<()> {
     println!(rt; "the modes:")?;
-    for mode in (0..=12).filter_map(Mode::from_code) {
+    for mode in (0..=12).filter_map(|code| Mode::try_from(code).ok()) {
         show_mode(rt, mode)?;
     }
     println!(rt; "")?;

@@ -8,6 +8,7 @@ use modes::order::Order;
 use modes::way::Way;
 use runs::cartridge::Cartridge;
 use runs::ends::units_on_the_way;
+use runs::run::heading::{Receiving, Sending};
 use runs::run::{DecipheringRun, EncipheringRun, Run};
 use std::alloc::{AllocError, Global};
 use std::fmt;
@@ -121,8 +122,8 @@ struct Ends<S, R> {
 impl<S: Engine + Drop, R: Engine + Drop> Ends<S, R> {
     fn open(sender: S, receiver: R, order: Order) -> Self {
         Ends {
-            sending: Cartridge::new(sender).start_enciphering(order),
-            receiving: Cartridge::new(receiver).start_deciphering(order),
+            sending: Cartridge::new(sender).start(order, Sending),
+            receiving: Cartridge::new(receiver).start(order, Receiving),
             mode: order.mode(),
         }
     }

@@ -6,6 +6,7 @@ use modes::order::Order;
 use refusals::Refusal;
 use runs::cartridge::Cartridge;
 use runs::run::EncipheringRun;
+use runs::run::heading::Sending;
 use std::fmt;
 
 /// How many units are fed at once.
@@ -28,7 +29,7 @@ impl fmt::Display for Answer {
 fn open() -> Result<EncipheringRun<Line<Dea, Dea, Dea>>, Refusal> {
     let order = Order::check(1, &[])?;
     let line = Line::new(Dea::new(1), Dea::new(2), Dea::new(3));
-    Ok(Cartridge::new(line).start_enciphering(order))
+    Ok(Cartridge::new(line).start(order, Sending))
 }
 
 /// Feeds units, and drains them.

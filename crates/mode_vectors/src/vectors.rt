@@ -1,5 +1,4 @@
 //! A text through each mode.
-use anyhow::Context;
 use cipher::dea::Dea;
 use cipher::triple::Triple;
 use engines::engine::{Engine, GREATEST_DEPTH};
@@ -9,6 +8,7 @@ use modes::mode::Mode;
 use modes::order::Order;
 use runs::cartridge::Cartridge;
 use runs::run::EncipheringRun;
+use runs::run::heading::{Receiving, Sending};
 use std::alloc::{AllocError, Global};
 use std::fmt;
 
@@ -106,7 +106,7 @@ impl Vector {
     fn send(&self, heap: Global) -> anyhow::Result<Vec<u64>> {
         let [first, second, third] = self.keys.map(Dea::new);
         let line = Line::new(first, second, third);
-        let mut run = Cartridge::new(line).start_enciphering(self.order);
+        let mut run = Cartridge::new(line).start(self.order, Sending);
         let sent = feed_each(heap, &mut run, &self.units);
         drop(run.close());
         sent
@@ -117,7 +117,7 @@ impl Vector {
         let mut received = vec![in heap; 0; sent.len()]?;
         let [first, second, third] = self.keys.map(Dea::new);
         let plain = Plain::new(Triple::new(first, second, third));
-        let mut run = Cartridge::new(plain).start_deciphering(self.order);
+        let mut run = Cartridge::new(plain).start(self.order, Receiving);
         let answer = run.feed(sent, &mut received);
         drop(run.close());
         answer?;
@@ -144,7 +144,7 @@ impl Vector {
 
 /// The text through one mode.
 pub fn show_code(rt: &HostRuntime, code: u8) -> anyhow::Result<()> {
-    let mode = Mode::from_code(code).context("no such mode")?;
+    let mode = Mode::try_from(code)?;
     let vector = Vector {
         keys: KEYS,
         order: Order::check(code, &VALUES[..8 * mode.initial_values()])?,

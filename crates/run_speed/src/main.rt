@@ -1,7 +1,6 @@
 //! Times runs over the line: nanoseconds a unit, in tenths, for some codes. It measures only where it is given a word, since what it then prints is never the same.
 #![tactic(auto)]
 
-use anyhow::Context;
 use cipher::dea::Dea;
 use engines::engine::Engine;
 use engines::line::Line;
@@ -10,6 +9,7 @@ use modes::order::Order;
 use refusals::Refusal;
 use runs::cartridge::Cartridge;
 use runs::run::EncipheringRun;
+use runs::run::heading::Sending;
 use std::env;
 use std::time::{Duration, Instant};
 
@@ -39,14 +39,14 @@ fn whole_run(order: Order) -> Result<(), Refusal> {
         Dea::new(0x2345_6789_ABCD_EF01),
         Dea::new(0x4567_89AB_CDEF_0123),
     );
-    let mut run = Cartridge::new(line).start_enciphering(order);
+    let mut run = Cartridge::new(line).start(order, Sending);
     let answer = feed_all(&mut run);
     drop(run.close());
     answer
 }
 
 fn time_code(rt: &HostRuntime, code: u8) -> anyhow::Result<()> {
-    let mode = Mode::from_code(code).context("no such mode")?;
+    let mode = Mode::try_from(code)?;
     let order = Order::check(code, &[0x5A; 24][..8 * mode.initial_values()])?;
     let mut least = Duration::MAX;
     for _ in 0..ROUNDS {

@@ -23,7 +23,7 @@ pub fn pick(numbers: &mut Numbers, n: u64) -> u64
 pub fn draw_order(numbers: &mut Numbers) -> Result<Order, Refusal> {
     let code = (1 + pick(numbers, 11)) as u8;
     let values: [[u8; 8]; 3] = array::from_fn(|_| numbers.draw().to_be_bytes());
-    let mode = Mode::from_code(code).ok_or(Refusal::UnknownCode(code))?;
+    let mode = Mode::try_from(code)?;
     Order::check(code, values[..mode.initial_values()].as_flattened())
 }
 

@@ -9,6 +9,7 @@ use modes::way::Way;
 use refusals::Refusal;
 use runs::cartridge::Cartridge;
 use runs::run::Run;
+use runs::run::heading::{Receiving, Sending};
 use std::fmt;
 
 /// What happened on one cartridge.
@@ -93,8 +94,8 @@ impl Driver<'_> {
     fn open_and_run<E: Engine>(&mut self, cartridge: Cartridge<E>, order: Order) -> Cartridge<E> {
         let mode = order.mode();
         match draw_way(self.numbers) {
-            Way::Enciphering => self.run_through(cartridge.start_enciphering(order), mode),
-            Way::Deciphering => self.run_through(cartridge.start_deciphering(order), mode),
+            Way::Enciphering => self.run_through(cartridge.start(order, Sending), mode),
+            Way::Deciphering => self.run_through(cartridge.start(order, Receiving), mode),
         }
     }
 }
