@@ -10,7 +10,7 @@ use cipher::dea::known::{substitution_row, worked_values};
 const RECORD: [u8; 48] = *b"SETTLE 0417>0993 2026-11-17 EUR 000000012500.00;";
 
 /// What the tables are known to hold.
-pub fn show_tables(rt: &HostRuntime) -> anyhow::Result<()> {
+pub fn show_tables(rt: &impl Print) -> anyhow::Result<()> {
     println!(rt;
         "{} worked values of the cipher are proved",
         worked_values()
@@ -21,7 +21,7 @@ pub fn show_tables(rt: &HostRuntime) -> anyhow::Result<()> {
 }
 
 /// The record enciphered and deciphered again.
-pub fn show(rt: &HostRuntime) -> anyhow::Result<()> {
+pub fn show(rt: &(impl Print + AllocGlobal)) -> anyhow::Result<()> {
     let heap = rt.alloc();
     let triple = load_bundle(rt)?.into_cipher();
     println!(rt; "{}", Text(&RECORD))?;

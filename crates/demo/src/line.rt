@@ -79,7 +79,7 @@ impl fmt::Display for Output {
 }
 
 /// What the triple answers to the inputs, two cycles late.
-fn wanted(rt: &HostRuntime) -> anyhow::Result<Vec<Option<Block>>> {
+fn wanted(rt: &(impl Print + AllocGlobal)) -> anyhow::Result<Vec<Option<Block>>> {
     let mut triple = load_plain(rt)?;
     let mut wanted = vec![in rt.alloc(); None; 2]?;
     for input in INPUTS {
@@ -90,7 +90,7 @@ fn wanted(rt: &HostRuntime) -> anyhow::Result<Vec<Option<Block>>> {
 
 /// The line of the example's three keys at work. For each cycle: what goes in, what then stands in each functional block, what comes
 /// out, and whether that is what the triple itself answered two cycles before.
-pub fn show(rt: &HostRuntime) -> anyhow::Result<()> {
+pub fn show(rt: &(impl Print + AllocGlobal)) -> anyhow::Result<()> {
     let mut line = load_line(rt)?;
     let wanted = wanted(rt)?;
     println!(rt;

@@ -17,7 +17,7 @@ const BUNDLE: [u8; 24] = [
 ];
 
 /// The bundle of the example. The bytes are shown before and after loading.
-pub fn load_bundle(rt: &HostRuntime) -> anyhow::Result<KeyBundle> {
+pub fn load_bundle(rt: &impl Print) -> anyhow::Result<KeyBundle> {
     let mut keys = BUNDLE;
     println!(rt; "key bytes handed in: {}", Hexadecimal(&keys))?;
     let loaded = KeyBundle::load(&mut keys);
@@ -26,18 +26,18 @@ pub fn load_bundle(rt: &HostRuntime) -> anyhow::Result<KeyBundle> {
 }
 
 /// The line of the example's three keys.
-pub fn load_line(rt: &HostRuntime) -> anyhow::Result<Line<Dea, Dea, Dea>> {
+pub fn load_line(rt: &impl Print) -> anyhow::Result<Line<Dea, Dea, Dea>> {
     let (first, second, third) = load_bundle(rt)?.into_ciphers();
     Ok(Line::new(first, second, third))
 }
 
 /// The plain engine over the triple of the same keys.
-pub fn load_plain(rt: &HostRuntime) -> anyhow::Result<Plain<Triple<Dea, Dea, Dea>>> {
+pub fn load_plain(rt: &impl Print) -> anyhow::Result<Plain<Triple<Dea, Dea, Dea>>> {
     Ok(Plain::new(load_bundle(rt)?.into_cipher()))
 }
 
 fn print_refusal<K: Drop>(
-    rt: &HostRuntime,
+    rt: &impl Print,
     what: &str,
     loaded: Result<K, Refusal>,
 ) -> anyhow::Result<()> {
@@ -52,7 +52,7 @@ fn print_refusal<K: Drop>(
 }
 
 /// Keys that are not taken, and why.
-pub fn show_refused_keys(rt: &HostRuntime) -> anyhow::Result<()> {
+pub fn show_refused_keys(rt: &impl Print) -> anyhow::Result<()> {
     let mut flipped = BUNDLE;
     flipped[9] = 0x44;
     let loaded = KeyBundle::load(&mut flipped);

@@ -15,7 +15,7 @@ fn main(rt: HostRuntime) -> anyhow::Result<()> {
     run(&rt)
 }
 
-fn run(rt: &HostRuntime) -> anyhow::Result<()> {
+fn run(rt: &(impl Print + AllocGlobal)) -> anyhow::Result<()> {
     ciphering::show_tables(rt)?;
     println!(rt; "")?;
     mode_table::show(rt)?;

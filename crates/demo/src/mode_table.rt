@@ -71,7 +71,7 @@ impl fmt::Display for Opening {
 }
 
 // One line of the table.
-fn show_mode(rt: &HostRuntime, mode: Mode) -> io::Result<()> {
+fn show_mode(rt: &impl Print, mode: Mode) -> io::Result<()> {
     println!(rt;
         "{:2} {:6} width {:2}, initial values {}, distance {} / {}, memory {}, reach {}",
         mode.code(),
@@ -86,7 +86,7 @@ fn show_mode(rt: &HostRuntime, mode: Mode) -> io::Result<()> {
 }
 
 // An opening, and the order or the refusal that answers it.
-fn show_opening(rt: &HostRuntime, code: u8, bytes: &[u8]) -> io::Result<()> {
+fn show_opening(rt: &impl Print, code: u8, bytes: &[u8]) -> io::Result<()> {
     println!(rt;
         "code {code:2}, {:2} bytes: {}",
         bytes.len(),
@@ -94,7 +94,7 @@ fn show_opening(rt: &HostRuntime, code: u8, bytes: &[u8]) -> io::Result<()> {
     )
 }
 
-pub fn show(rt: &HostRuntime) -> io::Result<()> {
+pub fn show(rt: &impl Print) -> io::Result<()> {
     println!(rt; "the modes:")?;
     for mode in (0..=12).filter_map(|code| Mode::try_from(code).ok()) {
         show_mode(rt, mode)?;

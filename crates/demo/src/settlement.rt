@@ -25,7 +25,7 @@ fn reads_right_from(file: &[u64], arrivals: &[Option<u64>]) -> usize {
 }
 
 /// Each record beside what was received for it, with dots where a unit was lost.
-fn print_records(rt: &HostRuntime, arrivals: &[Option<u64>]) -> anyhow::Result<()> {
+fn print_records(rt: &(impl Print + AllocGlobal), arrivals: &[Option<u64>]) -> anyhow::Result<()> {
     for (sent, units) in RECORDS.iter().zip(arrivals.chunks(3)) {
         let received: Vec<u8> = units
             .iter()
@@ -41,7 +41,7 @@ fn print_records(rt: &HostRuntime, arrivals: &[Option<u64>]) -> anyhow::Result<(
     Ok(())
 }
 
-pub fn show(rt: &HostRuntime) -> anyhow::Result<()> {
+pub fn show(rt: &(impl Print + AllocGlobal)) -> anyhow::Result<()> {
     let order = Order::check(CODE, &VALUES)?;
     let file = blocks_of(rt.alloc(), RECORDS.as_flattened())?;
     let transmission = transmission::run(rt, order, &file, DAMAGE)?;

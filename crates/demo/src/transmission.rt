@@ -180,7 +180,7 @@ fn pass<E: Engine, W>(
 
 /// The file under the example's keys: sent on the line, received on a plain engine over the triple.
 pub fn run(
-    rt: &HostRuntime,
+    rt: &(impl Print + AllocGlobal),
     order: Order,
     file: &[u64],
     damage: Damage,

@@ -41,7 +41,7 @@ fn feed_and_drain<E: Engine>(run: &mut EncipheringRun<E>, units: &[u64]) -> Resu
 }
 
 /// Takes a cartridge up to one unit below its limit, and then offers more, with room enough.
-fn show_near_limit<E: Engine>(rt: &HostRuntime, run: &mut EncipheringRun<E>) -> anyhow::Result<()> {
+fn show_near_limit<E: Engine>(rt: &impl Print, run: &mut EncipheringRun<E>) -> anyhow::Result<()> {
     let units = [7; CHUNK];
     for _ in 0..255 {
         feed_and_drain(run, &units)?;
@@ -56,14 +56,14 @@ fn show_near_limit<E: Engine>(rt: &HostRuntime, run: &mut EncipheringRun<E>) -> 
 }
 
 /// Feeds no units, with two inside and no place for output.
-fn show_no_place<E: Engine>(rt: &HostRuntime, run: &mut EncipheringRun<E>) -> anyhow::Result<()> {
+fn show_no_place<E: Engine>(rt: &impl Print, run: &mut EncipheringRun<E>) -> anyhow::Result<()> {
     run.feed(&[1, 2], &mut [0; 2])?;
     let answer = Answer(run.feed(&[], &mut []));
     println!(rt; "no units, two inside, no place for output: {answer}")?;
     Ok(())
 }
 
-pub fn show(rt: &HostRuntime) -> anyhow::Result<()> {
+pub fn show(rt: &impl Print) -> anyhow::Result<()> {
     let mut run = open()?;
     let shown = show_near_limit(rt, &mut run);
     let count = run.close().count();

@@ -124,7 +124,7 @@ impl Vector {
         Ok(received)
     }
 
-    fn show(&self, rt: &HostRuntime) -> anyhow::Result<()> {
+    fn show(&self, rt: &(impl Print + AllocGlobal)) -> anyhow::Result<()> {
         let mode = self.order.mode();
         let sent = self.send(rt.alloc())?;
         let received = self.receive(rt.alloc(), &sent)?;
@@ -143,7 +143,7 @@ impl Vector {
 }
 
 /// The text through one mode.
-pub fn show_code(rt: &HostRuntime, code: u8) -> anyhow::Result<()> {
+pub fn show_code(rt: &(impl Print + AllocGlobal), code: u8) -> anyhow::Result<()> {
     let mode = Mode::try_from(code)?;
     let vector = Vector {
         keys: KEYS,
@@ -154,7 +154,7 @@ pub fn show_code(rt: &HostRuntime, code: u8) -> anyhow::Result<()> {
 }
 
 /// The published example of the codebook mode under two keys.
-pub fn show_codebook_example(rt: &HostRuntime) -> anyhow::Result<()> {
+pub fn show_codebook_example(rt: &(impl Print + AllocGlobal)) -> anyhow::Result<()> {
     let mut units = units_of(rt.alloc(), 64)?;
     units.truncate(4);
     let vector = Vector {

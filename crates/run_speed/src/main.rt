@@ -11,7 +11,7 @@ use runs::cartridge::Cartridge;
 use runs::run::EncipheringRun;
 use runs::run::heading::Sending;
 use std::env;
-use std::time::{Duration, Instant};
+use std::time::{Clock, Duration, Instant};
 
 /// Units of a feed, and feeds of a run.
 const UNITS: usize = 4096;
@@ -45,7 +45,7 @@ fn whole_run(order: Order) -> Result<(), Refusal> {
     answer
 }
 
-fn time_code(rt: &HostRuntime, code: u8) -> anyhow::Result<()> {
+fn time_code(rt: &(impl Print + Clock), code: u8) -> anyhow::Result<()> {
     let mode = Mode::try_from(code)?;
     let order = Order::check(code, &[0x5A; 24][..8 * mode.initial_values()])?;
     let mut least = Duration::MAX;
