@@ -12,7 +12,7 @@ use runs::run::heading::{Receiving, Sending};
 use std::alloc::{AllocError, Global};
 use std::fmt;
 
-// Other programs write these keys and values out too: a crate that shares so few lines would be no plainer.
+// Other programs write these keys and values out too, as words or as bytes: a crate and conversions to share them would be no plainer.
 /// The three keys.
 const KEYS: [u64; 3] = [
     0x0123_4567_89AB_CDEF,
@@ -59,6 +59,7 @@ fn units_of(heap: Global, width: usize) -> Result<Vec<u64>, AllocError> {
     }
 }
 
+// The demo has such a function with more units at a time: a crate that shares these few lines would be no plainer.
 /// Feeds units one by one, and drains the run. Answers what is handed out.
 fn feed_each<E: Engine>(
     heap: Global,
@@ -120,7 +121,7 @@ impl Vector {
         let mut run = Cartridge::new(plain).start(self.order, Receiving);
         let answer = run.feed(sent, &mut received);
         drop(run.close());
-        answer?;
+        received.truncate(answer?);
         Ok(received)
     }
 
