@@ -24,7 +24,7 @@ block_behind : (p : ℕ) (bs : List ℕ) → block_at bs (8 + p) ≡ block_at (d
 block_behind p bs = simp (get_or-drop, add_assoc)
 
 -- a block and the blocks behind it
-blocks_behind : (n : ℕ) (bs : List ℕ) → blocks_in (suc n) bs ≡ block_at bs 0 ∷ blocks_in n (drop 8 bs)
+pub blocks_behind : (n : ℕ) (bs : List ℕ) → blocks_in (suc n) bs ≡ block_at bs 0 ∷ blocks_in n (drop 8 bs)
 blocks_behind zero bs = refl
 blocks_behind (suc n) bs =
     let e : 8 * suc n ≡ 8 + 8 * n = omega arith in

@@ -23,18 +23,14 @@ impl<'a> Fields<'a> {
         ensures format { Format }
     {
         let mut reader = Reader::new(job);
-        let keys = reader.field(Tag::Keys)?.bytes;
-        let code = reader.field(Tag::Code)?.bytes;
-        let direction = reader.field(Tag::Direction)?.bytes;
-        let initial_values = reader.field(Tag::InitialValues)?.bytes;
-        let data = reader.field(Tag::Data)?.bytes;
+        let fields = Fields {
+            keys: reader.field(Tag::Keys)?.bytes,
+            code: reader.field(Tag::Code)?.bytes,
+            direction: reader.field(Tag::Direction)?.bytes,
+            initial_values: reader.field(Tag::InitialValues)?.bytes,
+            data: reader.field(Tag::Data)?.bytes,
+        };
         reader.end()?;
-        Ok(Fields {
-            keys,
-            code,
-            direction,
-            initial_values,
-            data,
-        })
+        Ok(fields)
     }
 }

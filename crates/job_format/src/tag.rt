@@ -2,27 +2,20 @@
 ghost use Rattle.std.specs.Prelude.{◌≡◌};
 ghost use Rattle.job_format.specs.Tags.{tag_number};
 
-/// What a field holds. A job has one field of each, in this order.
+/// What a field holds, with the byte that stands for it. A job has one field of each, in this order.
 #[derive(Clone, Copy, PartialEq, Eq, Debug)]
 pub enum Tag {
-    Keys,
-    Code,
-    Direction,
-    InitialValues,
-    Data,
+    Keys = 1,
+    Code = 2,
+    Direction = 3,
+    InitialValues = 4,
+    Data = 5,
 }
 
-impl Tag {
-    /// The byte that stands for the tag.
-    pub fn number(self) -> u8
-        ensures { result ≡ tag_number self }
-    {
-        match self {
-            Tag::Keys => 1,
-            Tag::Code => 2,
-            Tag::Direction => 3,
-            Tag::InitialValues => 4,
-            Tag::Data => 5,
-        }
+impl From<Tag> for u8 {
+    ghost from_gives = { λ tag number. number ≡ tag_number tag };
+
+    fn from(tag: Tag) -> u8 {
+        tag as u8
     }
 }

@@ -5,7 +5,7 @@ use Rattle.refusals.specs.declared.Refusal.{Refusal}
 use Rattle.refusals.specs.declared.Refusal.TheVariants.{DataLength, PartialUnit, UnitWidth, OutputLength}
 use Rattle.modes.specs.declared.mode.Mode.{Mode}
 use Rattle.modes.specs.Table.{row}
-use Rattle.calls.specs.Due.{first_wide}
+use Rattle.modes.specs.Widths.{first_wide}
 use Rattle.job_format.specs.UnitBytes.{unit_size, units_in}
 use Rattle.jobs.specs.Asking.{data_limit, data_checked}
 

@@ -19,7 +19,7 @@ use Rattle.modes.specs.Laws.{Ends}
 use Rattle.modes.specs.Results.{sent, received}
 use Rattle.modes.proofs.Grown.{units_push}
 use Rattle.modes.proofs.Receiving.{length_results, units_give_units, restoring}
-use Rattle.calls.specs.Due.{first_wide}
+use Rattle.modes.specs.Widths.{first_wide}
 use Rattle.calls.proofs.Accepted.{none_wide}
 use Rattle.job_format.specs.declared.tag.Tag.TheVariants.{Code, Direction}
 use Rattle.job_format.specs.Fields.{Parts, and_then, Bytes}

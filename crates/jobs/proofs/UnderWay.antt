@@ -2,7 +2,6 @@
 use Rattle.std.proofs.Common.{◌≡◌, ℕ, ◌+◌, ◌^◌, ◌<◌, ◌≤◌, true, List, [], ◌∷◌, ◌++◌, length, take, drop, Some, None, Ok, Err, Result, sym, refl, ap, ◌∙◌, subst, mul-le-mul_left, arith}
 use Rattle.std.proofs.lemmas.List.{length-append, take_at}
 use Rattle.std.proofs.lemmas.Bool.{cond-true, lt-ltb}
-use Rattle.std.specs.Result.{result_ok}
 use Rattle.refusals.specs.declared.Refusal.{Refusal}
 use Rattle.engines.specs.Machines.{Machine}
 use Rattle.engines.specs.Depths.{the_greatest_depth}
@@ -25,6 +24,7 @@ use Rattle.runs.proofs.DrainReplies.{drain_accepts}
 use Rattle.runs.proofs.Emptying.{drained_empty, results_out}
 use Rattle.runs.proofs.Numbers.{taken_told, cycles_told}
 use Rattle.job_format.specs.UnitBytes.{unit_size, bytes_of, units_written, written_end}
+use Rattle.job_format.specs.EndAfter.{end_after}
 use Rattle.job_format.proofs.Sizes.{length_bytes_of}
 use Rattle.job_format.proofs.WrittenOn.{written_on, written_end_on}
 use Rattle.jobs.specs.Carrying.{UnderWay, AllOut, Room, FedOn, DrainedOff}
@@ -35,9 +35,9 @@ told : (xs ys hs : List ℕ) (r : Result ℕ Refusal) → Answered xs ys r (gave
 told xs ys hs (Ok n) a = (ap Ok a.0, a.1)
 told xs ys hs (Err e) a = absurd a
 
-ok_with : (r : Result ℕ Refusal) (n : ℕ) → result_ok r ≡ Some n → r ≡ Ok n
-ok_with (Ok m) n e = cc
-ok_with (Err e') n e = let z : ◌≡◌ {A = ℕ} 0 1 = cc in absurd (omega arith)
+ended : (r : Result (Unit {0}) Refusal) (end n : ℕ) → end_after r end ≡ Some n → (r ≡ Ok tt) × (end ≡ n)
+ended (Ok done) end n e = (refl, cc)
+ended (Err e') end n e = let z : ◌≡◌ {A = ℕ} 0 1 = cc in absurd (omega arith)
 
 module _ (mach mach' : Machine) (f f' : Frame) (order : Order) (way : Way) (us xs ys : List ℕ) (offset : ℕ)
     (uw : UnderWay mach f order way us xs ys offset) where
@@ -48,19 +48,19 @@ module _ (mach mach' : Machine) (f f' : Frame) (order : Order) (way : Way) (us x
   width_is = ap (λ o. (row o.mode).width) uw.order_is
 
   -- units that are handed out next are written behind those before them
-  handed_on : (F G : ℕ → ℕ) (D : ℕ) (calls : Calls true) (hs ks ys' : List ℕ) (r : Result ℕ Refusal) → Follows F G D calls
-      → handed_out calls ≡ handed_out uw.calls ++ hs → Room order (length (taken calls)) xs → ks ≡ hs → result_ok r ≡ written_end w ks ys offset
+  handed_on : (F G : ℕ → ℕ) (D : ℕ) (calls : Calls true) (hs ks ys' : List ℕ) (offset' : ℕ) (r : Result (Unit {0}) Refusal) → Follows F G D calls
+      → handed_out calls ≡ handed_out uw.calls ++ hs → Room order (length (taken calls)) xs → ks ≡ hs → end_after r offset' ≡ written_end w ks ys offset
       → ys' ≡ units_written w ks ys offset
-      → (r ≡ Ok (length (bytes_of w (handed_out calls))))
+      → ((r ≡ Ok tt) × (offset' ≡ length (bytes_of w (handed_out calls))))
       × (ys' ≡ bytes_of w (handed_out calls) ++ drop (length (bytes_of w (handed_out calls))) xs)
-  handed_on F G D calls hs ks ys' r follows more room same ends writes =
+  handed_on F G D calls hs ks ys' offset' r follows more room same ends writes =
       let before = handed_out uw.calls in
       let few : length (handed_out calls) ≤ length (taken calls) = omega (arith, balanced F G D calls follows) in
       let total = length_bytes_of w (handed_out calls) in
       let fits : length (bytes_of w (handed_out calls)) ≤ length xs = omega (arith, mul-le-mul_left (unit_size w) few) in
       let both : length (bytes_of w (before ++ hs)) ≤ length xs = subst (λ l. length (bytes_of w l) ≤ length xs) more fits in
       let here = uw.offset_is in (
-        ok_with r _
+        ended r offset' _
             (ends ∙ ap (λ l. written_end w l ys offset) same ∙ ap (written_end w hs ys) here
             ∙ written_end_on w before hs xs ys uw.output both
             ∙ ap (λ l. Some (length (bytes_of w l))) (sym more)),
@@ -85,10 +85,10 @@ module _ (mach mach' : Machine) (f f' : Frame) (order : Order) (way : Way) (us x
         (_, t.0, t.1, subst (λ b. Stands mach' f' (fed (u ∷ []) (length rs) b calls)) (yes _) a.1)
 
     -- and so the run goes on
-    pub fed_on : (given : ℕ) → r ≡ Ok given → (ys' : List ℕ) (r' : Result ℕ Refusal) → Room order (length us + 1) xs
-        → result_ok r' ≡ written_end w (take given rs') ys offset → ys' ≡ units_written w (take given rs') ys offset
-        → (offset' : ℕ) × (r' ≡ Ok offset') × UnderWay mach' f' order way (us ++ u ∷ []) xs ys' offset'
-    fed_on given is ys' r' room ends writes =
+    pub fed_on : (given : ℕ) → r ≡ Ok given → (ys' : List ℕ) (offset' : ℕ) (r' : Result (Unit {0}) Refusal) → Room order (length us + 1) xs
+        → end_after r' offset' ≡ written_end w (take given rs') ys offset → ys' ≡ units_written w (take given rs') ys offset
+        → (r' ≡ Ok tt) × UnderWay mach' f' order way (us ++ u ∷ []) xs ys' offset'
+    fed_on given is ys' offset' r' room ends writes =
         let t = taken_in in
         let hs = t.0 in
         let calls = fed (u ∷ []) (length rs) (gave hs) uw.calls in
@@ -96,10 +96,9 @@ module _ (mach mach' : Machine) (f f' : Frame) (order : Order) (way : Way) (us x
         let longer = length-append us (u ∷ []) in
         let count : given ≡ length hs = cc (is, t.1) in
         let first : take given rs' ≡ hs = ap (take given) t.2 ∙ take_at hs (drop (length hs) rs) given (sym count) in
-        let p = handed_on mach'.forward mach'.inverse mach'.depth calls hs (take given rs') ys' r' t.3.follows refl
+        let p = handed_on mach'.forward mach'.inverse mach'.depth calls hs (take given rs') ys' offset' r' t.3.follows refl
         (subst (λ n. Room order n xs) (sym (ap length took ∙ longer)) room) first ends writes in (
-          length (bytes_of w (handed_out calls)),
-          p.0,
+          p.0.0,
           record {
             calls = calls;
             stands = t.3;
@@ -109,7 +108,7 @@ module _ (mach mach' : Machine) (f f' : Frame) (order : Order) (way : Way) (us x
             one_stretch = omega (arith, uw.one_stretch, longer);
             undrained = uw.undrained;
             first_run = uw.first_run;
-            offset_is = refl;
+            offset_is = p.0.1;
             output = p.1;
           },
         )
@@ -125,10 +124,10 @@ module _ (mach mach' : Machine) (f f' : Frame) (order : Order) (way : Way) (us x
         (_, t.0, t.1, subst (λ b. Stands mach' f' (drained (length rs) b calls)) (yes _) a.1)
 
     -- and then all results are out
-    pub drained_off : (given : ℕ) → r ≡ Ok given → (ys' : List ℕ) (r' : Result ℕ Refusal) → Room order (length us) xs
-        → result_ok r' ≡ written_end w (take given rs') ys offset → ys' ≡ units_written w (take given rs') ys offset
-        → (offset' : ℕ) × (r' ≡ Ok offset') × AllOut mach' f' order way us xs ys' offset'
-    drained_off given is ys' r' room ends writes =
+    pub drained_off : (given : ℕ) → r ≡ Ok given → (ys' : List ℕ) (offset' : ℕ) (r' : Result (Unit {0}) Refusal) → Room order (length us) xs
+        → end_after r' offset' ≡ written_end w (take given rs') ys offset → ys' ≡ units_written w (take given rs') ys offset
+        → (r' ≡ Ok tt) × AllOut mach' f' order way us xs ys' offset'
+    drained_off given is ys' offset' r' room ends writes =
         let t = taken_out in
         let ks = t.0 in
         let stands = t.3 in
@@ -136,13 +135,12 @@ module _ (mach mach' : Machine) (f f' : Frame) (order : Order) (way : Way) (us x
         let calls = drained (length rs) (gave ks) uw.calls in
         let count : given ≡ length ks = cc (is, t.1) in
         let first : take given rs' ≡ ks = ap (take given) t.2 ∙ take_at ks (drop (length ks) rs) given (sym count) in
-        let p = handed_on mach'.forward mach'.inverse D calls ks (take given rs') ys' r' stands.follows refl
+        let p = handed_on mach'.forward mach'.inverse D calls ks (take given rs') ys' offset' r' stands.follows refl
         (subst (λ n. Room order n xs) (sym (ap length uw.took)) room) first ends writes in
         let out = results_out mach' f' calls stands (drained_empty _ _ D uw.calls (length rs) ks stands.follows) in
         let cycles = cycles_told mach' f' calls stands
         ∙ cycles_of_drain _ _ D stands.at_work.sound.deep uw.calls uw.undrained us uw.one_stretch (length rs) ks stands.follows in (
-          length (bytes_of w (handed_out calls)),
-          p.0,
+          p.0.0,
           record {
             units = taken_told mach' f' calls stands ∙ ap length uw.took;
             cycles = cycles ∙ ap (λ δ. cycles_for D δ us) (λ i. distance_of (uw.order_is i).mode (uw.way_is i));
@@ -151,38 +149,38 @@ module _ (mach mach' : Machine) (f f' : Frame) (order : Order) (way : Way) (us x
                 ap (bytes_of w)
                 (out
                 ∙ (λ i. results mach'.forward mach'.inverse (uw.order_is i).mode (uw.way_is i) (listed (uw.order_is i).values) (uw.took i) (length (uw.took i))));
-            offset_is = refl;
+            offset_is = p.0.1;
             output = p.1;
           },
         )
 
-pub err_is_not_ok : (e : Refusal) (n : ℕ) → Err e ≡ Ok n → ⊥
-err_is_not_ok e n is = let z : ◌≡◌ {A = ℕ} 0 1 = cc in absurd (omega arith)
+pub err_is_not_ok : {A : Type 0} (e : Refusal) (x : A) → Err e ≡ Ok x → ⊥
+err_is_not_ok e x is = let z : ◌≡◌ {A = ℕ} 0 1 = cc in absurd (omega arith)
 
 -- ---- the same by the calls' contracts: u is the unit, the list rs takes what comes out
 
 module _ (mach mach' : Machine) (f f' : Frame) (mode : Mode) (u offset : ℕ) (ys rs rs' : List ℕ) (large : the_greatest_depth ≤ length rs) where
-  pub feed_not_refused : (e e' : Refusal) → Fed mach mach' f f' (u ∷ []) rs rs' (Err e) → FedOn mach mach' f f' mode u offset ys ys (Err e')
+  pub feed_not_refused : (e e' : Refusal) → Fed mach mach' f f' (u ∷ []) rs rs' (Err e) → FedOn mach mach' f f' mode u offset offset ys ys (Err e')
   feed_not_refused e e' feeds order way us xs same uw narrow few room =
       absurd (err_is_not_ok e _ (taken_in mach mach' f f' order way us xs ys offset uw u rs rs' (Err e) (subst (λ m. u < 2 ^ (row m).width) (sym same) narrow) few large feeds).1)
 
-  pub feed_goes_on : (given : ℕ) (ys' : List ℕ) (r : Result ℕ Refusal) → Fed mach mach' f f' (u ∷ []) rs rs' (Ok given)
-      → result_ok r ≡ written_end (row mode).width (take given rs') ys offset → ys' ≡ units_written (row mode).width (take given rs') ys offset
-      → FedOn mach mach' f f' mode u offset ys ys' r
-  feed_goes_on given ys' r feeds ends writes order way us xs same uw narrow few room =
-      fed_on mach mach' f f' order way us xs ys offset uw u rs rs' (Ok given) (subst (λ m. u < 2 ^ (row m).width) (sym same) narrow) few large feeds given refl ys' r room
-      (subst (λ m. result_ok r ≡ written_end (row m).width (take given rs') ys offset) (sym same) ends)
+  pub feed_goes_on : (given : ℕ) (ys' : List ℕ) (offset' : ℕ) (r : Result (Unit {0}) Refusal) → Fed mach mach' f f' (u ∷ []) rs rs' (Ok given)
+      → end_after r offset' ≡ written_end (row mode).width (take given rs') ys offset → ys' ≡ units_written (row mode).width (take given rs') ys offset
+      → FedOn mach mach' f f' mode u offset offset' ys ys' r
+  feed_goes_on given ys' offset' r feeds ends writes order way us xs same uw narrow few room =
+      fed_on mach mach' f f' order way us xs ys offset uw u rs rs' (Ok given) (subst (λ m. u < 2 ^ (row m).width) (sym same) narrow) few large feeds given refl ys' offset' r room
+      (subst (λ m. end_after r offset' ≡ written_end (row m).width (take given rs') ys offset) (sym same) ends)
       (subst (λ m. ys' ≡ units_written (row m).width (take given rs') ys offset) (sym same) writes)
 
 module _ (mach mach' : Machine) (f f' : Frame) (mode : Mode) (offset : ℕ) (ys rs rs' : List ℕ) (large : the_greatest_depth ≤ length rs) where
-  pub drain_not_refused : (e e' : Refusal) → Drained mach mach' f f' rs rs' (Err e) → DrainedOff mach mach' f f' mode offset ys ys (Err e')
+  pub drain_not_refused : (e e' : Refusal) → Drained mach mach' f f' rs rs' (Err e) → DrainedOff mach mach' f f' mode offset offset ys ys (Err e')
   drain_not_refused e e' drains order way us xs same uw room =
       absurd (err_is_not_ok e _ (taken_out mach mach' f f' order way us xs ys offset uw rs rs' (Err e) large drains).1)
 
-  pub drain_ends : (given : ℕ) (ys' : List ℕ) (r : Result ℕ Refusal) → Drained mach mach' f f' rs rs' (Ok given)
-      → result_ok r ≡ written_end (row mode).width (take given rs') ys offset → ys' ≡ units_written (row mode).width (take given rs') ys offset
-      → DrainedOff mach mach' f f' mode offset ys ys' r
-  drain_ends given ys' r drains ends writes order way us xs same uw room =
-      drained_off mach mach' f f' order way us xs ys offset uw rs rs' (Ok given) large drains given refl ys' r room
-      (subst (λ m. result_ok r ≡ written_end (row m).width (take given rs') ys offset) (sym same) ends)
+  pub drain_ends : (given : ℕ) (ys' : List ℕ) (offset' : ℕ) (r : Result (Unit {0}) Refusal) → Drained mach mach' f f' rs rs' (Ok given)
+      → end_after r offset' ≡ written_end (row mode).width (take given rs') ys offset → ys' ≡ units_written (row mode).width (take given rs') ys offset
+      → DrainedOff mach mach' f f' mode offset offset' ys ys' r
+  drain_ends given ys' offset' r drains ends writes order way us xs same uw room =
+      drained_off mach mach' f f' order way us xs ys offset uw rs rs' (Ok given) large drains given refl ys' offset' r room
+      (subst (λ m. end_after r offset' ≡ written_end (row m).width (take given rs') ys offset) (sym same) ends)
       (subst (λ m. ys' ≡ units_written (row m).width (take given rs') ys offset) (sym same) writes)

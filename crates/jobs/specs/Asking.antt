@@ -8,7 +8,7 @@ use Rattle.modes.specs.declared.way.Way.{Way}
 use Rattle.modes.specs.declared.way.Way.TheVariants.{Enciphering, Deciphering}
 use Rattle.modes.specs.Table.{row, with_code}
 use Rattle.modes.specs.Orders.{Opening, opening, opened}
-use Rattle.calls.specs.Due.{first_wide}
+use Rattle.modes.specs.Widths.{first_wide}
 use Rattle.job_format.specs.declared.tag.Tag.{Tag}
 use Rattle.job_format.specs.declared.tag.Tag.TheVariants.{Code, Direction}
 use Rattle.job_format.specs.Tags.{tag_number}

@@ -47,11 +47,11 @@ abbrev pub Room : Order → ℕ → List ℕ → Type 0
 Room order n xs = unit_size (row order.mode).width * n ≤ length xs
 
 -- one unit more
-abbrev pub FedOn : (mach mach' : Machine) (f f' : Frame) → Mode → (unit offset : ℕ) (ys ys' : List ℕ) → Result ℕ Refusal → Type 0
-FedOn mach mach' f f' mode unit offset ys ys' r =
+abbrev pub FedOn : (mach mach' : Machine) (f f' : Frame) → Mode → (unit offset offset' : ℕ) (ys ys' : List ℕ) → Result (Unit {0}) Refusal → Type 0
+FedOn mach mach' f f' mode unit offset offset' ys ys' r =
     (order : Order) (way : Way) (us xs : List ℕ) → order.mode ≡ mode → UnderWay mach f order way us xs ys offset
     → unit < 2 ^ (row mode).width → length us + 1 ≤ unit_limit → Room order (length us + 1) xs
-    → (offset' : ℕ) × (r ≡ Ok offset') × UnderWay mach' f' order way (us ++ unit ∷ []) xs ys' offset'
+    → (r ≡ Ok tt) × UnderWay mach' f' order way (us ++ unit ∷ []) xs ys' offset'
 
 -- the first units of the data, from the start of a new cartridge's run on
 abbrev pub FedSome : (mach mach' : Machine) (f f' : Frame) → Mode → (bytes xs ys : List ℕ) (count offset : ℕ) → Type 0
@@ -59,17 +59,11 @@ FedSome mach mach' f f' mode bytes xs ys count offset =
     (order : Order) (way : Way) → order.mode ≡ mode → Stands mach f (started order way new) → data_checked mode bytes (length xs) ≡ Ok tt
     → UnderWay mach' f' order way (take count (units_in (row mode).width bytes)) xs ys offset
 
--- all of them
-abbrev pub FedAll : (mach mach' : Machine) (f f' : Frame) → Mode → (bytes xs ys : List ℕ) → Result ℕ Refusal → Type 0
-FedAll mach mach' f f' mode bytes xs ys r =
-    (order : Order) (way : Way) → order.mode ≡ mode → Stands mach f (started order way new) → data_checked mode bytes (length xs) ≡ Ok tt
-    → (offset : ℕ) × (r ≡ Ok offset) × UnderWay mach' f' order way (units_in (row mode).width bytes) xs ys offset
-
 -- the drain at the end
-abbrev pub DrainedOff : (mach mach' : Machine) (f f' : Frame) → Mode → (offset : ℕ) (ys ys' : List ℕ) → Result ℕ Refusal → Type 0
-DrainedOff mach mach' f f' mode offset ys ys' r =
+abbrev pub DrainedOff : (mach mach' : Machine) (f f' : Frame) → Mode → (offset offset' : ℕ) (ys ys' : List ℕ) → Result (Unit {0}) Refusal → Type 0
+DrainedOff mach mach' f f' mode offset offset' ys ys' r =
     (order : Order) (way : Way) (us xs : List ℕ) → order.mode ≡ mode → UnderWay mach f order way us xs ys offset → Room order (length us) xs
-    → (offset' : ℕ) × (r ≡ Ok offset') × AllOut mach' f' order way us xs ys' offset'
+    → (r ≡ Ok tt) × AllOut mach' f' order way us xs ys' offset'
 
 -- the whole of it
 abbrev pub CarriedOut : Machine → Frame → Mode → (bytes xs ys : List ℕ) → Result Report Refusal → Type 0

@@ -8,7 +8,8 @@ use super::DATA_LIMIT;
 use super::key_set::KeySet;
 use job_format::fields::Fields;
 use job_format::tag::Tag;
-use job_format::units::{first_too_wide, unit_size};
+use job_format::units::reading::first_too_wide;
+use job_format::units::unit_size;
 use modes::mode::Mode;
 use modes::order::Order;
 use modes::way::Way;
@@ -42,7 +43,7 @@ fn only_byte(tag: Tag, field: &[u8]) -> Result<u8, Refusal>
     if field.len() == 1 {
         Ok(field[0])
     } else {
-        Err(Refusal::FieldLength(tag.number()))
+        Err(Refusal::FieldLength(tag.into()))
     }
 }
 

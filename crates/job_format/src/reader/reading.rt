@@ -21,24 +21,17 @@ impl<'a> Reader<'a> {
         ensures same { self.new.job.now ≡ self.old.job.now }
         ensures still { is_err result ≡ true → self.new.at ≡ self.old.at }
     {
-        let job = self.job;
         let start = self.at;
-        if job.len() - start < 3 {
+        let [tag, high, low, rest @ ..] = &self.job[start..] else {
             return Err(Refusal::FieldTruncated(start));
-        }
-        if job[start] != due.number() {
+        };
+        if *tag != u8::from(due) {
             return Err(Refusal::FieldTag(start));
         }
-        let length = 256 * usize::from(job[start + 1]) + usize::from(job[start + 2]);
-        let from = start + 3;
-        if job.len() - from < length {
-            return Err(Refusal::FieldTruncated(start));
-        }
-        self.at = from + length;
-        Ok(Field {
-            tag: due,
-            bytes: &job[from..from + length],
-        })
+        let length = usize::from(u16::from_be_bytes([*high, *low]));
+        let bytes = rest.get(..length).ok_or(Refusal::FieldTruncated(start))?;
+        self.at = start + 3 + length;
+        Ok(Field { tag: due, bytes })
     }
 
     /// That nothing is left. Refused: bytes behind the last field.

@@ -1,5 +1,4 @@
-use native.Mathlib.Numerals.{unary_clauses}
-use Rattle.std.proofs.Common.{replicate, arith}
+use Rattle.std.proofs.Common.{replicate, refl, arith}
 use Rattle.std.proofs.lemmas.Result.{err_from_is_err_and}
 use Rattle.engines.specs.Depths.{the_greatest_depth}
 use Rattle.jobs.proofs.UnderWay.{drain_not_refused, drain_ends}
@@ -12,11 +11,13 @@ returns-in_err-left g c =
     let machine = g.E.Engine.machine in
     let run = c.args.run.now in
     let after = c.drain.new.self in
+    let writer = c.args.writer.now in
     rw p.1
     (record {
-      drained = drain_not_refused (machine run.engine) (machine after.engine) run.frame after.frame c.args.mode c.args.end
-          c.args.out.now (replicate the_greatest_depth 0) c.drain.new.out (omega arith) _ _ drain.answered;
+      drained = drain_not_refused (machine run.engine) (machine after.engine) run.frame after.frame writer.mode writer.end
+          writer.out.now (replicate the_greatest_depth 0) c.drain.new.out (omega arith) _ _ drain.answered;
       same = drain.same.0;
+      reference = refl;
     })
 
 pub returns : goal.returns
@@ -25,9 +26,12 @@ returns g c =
     let machine = g.E.Engine.machine in
     let run = c.args.run.now in
     let after = c.drain.new.self in
+    let writer = c.args.writer.now in
+    let write = c.write.ensures in
     record {
-      drained = drain_ends (machine run.engine) (machine after.engine) run.frame after.frame c.args.mode c.args.end
-          c.args.out.now (replicate the_greatest_depth 0) c.drain.new.out (omega arith) c.in_ok-left.left c.hand_on.new.out c.hand_on.result drain.answered
-          (simp unary_clauses at c.hand_on.ensures.value) (simp unary_clauses at c.hand_on.ensures.output);
+      drained = drain_ends (machine run.engine) (machine after.engine) run.frame after.frame writer.mode writer.end
+          writer.out.now (replicate the_greatest_depth 0) c.drain.new.out (omega arith) c.in_ok-left.left c.write.new.self.out.now c.write.new.self.end
+          c.write.result drain.answered write.value write.output;
       same = drain.same.0;
+      reference = write.reference;
     }

@@ -1,5 +1,4 @@
-use native.Mathlib.Numerals.{unary_clauses}
-use Rattle.std.proofs.Common.{replicate, arith}
+use Rattle.std.proofs.Common.{replicate, refl, arith}
 use Rattle.std.proofs.lemmas.Result.{err_from_is_err_and}
 use Rattle.engines.specs.Depths.{the_greatest_depth}
 use Rattle.jobs.proofs.UnderWay.{feed_not_refused, feed_goes_on}
@@ -12,11 +11,14 @@ returns-in_err-given g c =
     let machine = g.E.Engine.machine in
     let run = c.args.run.now in
     let after = c.feed.new.self in
+    let writer = c.args.writer.now in
     rw p.1
     (record {
-      fed = feed_not_refused (machine run.engine) (machine after.engine) run.frame after.frame c.args.mode c.args.unit c.args.end
-          c.args.out.now (replicate the_greatest_depth 0) c.feed.new.out (omega arith) _ _ feed.answered;
+      fed = feed_not_refused (machine run.engine) (machine after.engine) run.frame after.frame writer.mode c.args.unit writer.end
+          writer.out.now (replicate the_greatest_depth 0) c.feed.new.out (omega arith) _ _ feed.answered;
       same = feed.same.0;
+      reference = refl;
+      mode = refl;
     })
 
 pub returns : goal.returns
@@ -25,9 +27,13 @@ returns g c =
     let machine = g.E.Engine.machine in
     let run = c.args.run.now in
     let after = c.feed.new.self in
+    let writer = c.args.writer.now in
+    let write = c.write.ensures in
     record {
-      fed = feed_goes_on (machine run.engine) (machine after.engine) run.frame after.frame c.args.mode c.args.unit c.args.end
-          c.args.out.now (replicate the_greatest_depth 0) c.feed.new.out (omega arith) c.in_ok-given.given c.hand_on.new.out c.hand_on.result feed.answered
-          (simp unary_clauses at c.hand_on.ensures.value) (simp unary_clauses at c.hand_on.ensures.output);
+      fed = feed_goes_on (machine run.engine) (machine after.engine) run.frame after.frame writer.mode c.args.unit writer.end
+          writer.out.now (replicate the_greatest_depth 0) c.feed.new.out (omega arith) c.in_ok-given.given c.write.new.self.out.now c.write.new.self.end
+          c.write.result feed.answered write.value write.output;
       same = feed.same.0;
+      reference = write.reference;
+      mode = write.mode;
     }

@@ -1,0 +1,67 @@
+//! Writing units one behind the other.
+ghost use Rattle.std.specs.Prelude.{◌≡◌, ◌+◌, ◌-◌, ◌^◌, ◌≤◌, min, length, is_err, true, IfErr};
+ghost use Rattle.refusals.specs.declared.Refusal.TheVariants.{OutputLength};
+ghost use Rattle.modes.specs.Table.{row};
+ghost use Rattle.job_format.specs.UnitBytes.{bytes_of, units_written, written_end};
+ghost use Rattle.job_format.specs.EndAfter.{end_after};
+
+use super::unit_size;
+use modes::mode::Mode;
+use refusals::Refusal;
+
+/// Bytes that take units, from the first byte on, and the offset behind those that were written.
+#[derive(Drop)]
+pub struct UnitWriter<'a> {
+    mode: Mode,
+    out: &'a mut [u8],
+    end: usize,
+    ghost within: { end ≤ length out.now },
+}
+
+impl<'a> UnitWriter<'a> {
+    /// A writer at the first byte.
+    pub fn new(mode: Mode, out: &'a mut [u8]) -> UnitWriter<'a>
+        ensures reference { result.out.ghost_name ≡ out.entry.ghost_name }
+        ensures mode { result.mode ≡ mode }
+        ensures output { result.out.now ≡ out.old }
+        ensures end { result.end ≡ 0 }
+    {
+        UnitWriter { mode, out, end: 0 }
+    }
+
+    /// The mode whose units are written.
+    pub fn mode(&self) -> Mode
+        ensures { result ≡ self.now.mode }
+    {
+        self.mode
+    }
+
+    /// How many bytes were written.
+    pub fn written(&self) -> usize
+        ensures { result ≡ self.now.end }
+    {
+        self.end
+    }
+
+    /// Writes units behind those before them; where there is not enough room for all, writes none.
+    pub fn write(&mut self, units: &[u64]) -> Result<(), Refusal>
+        ensures reference { self.new.out.ghost_name ≡ self.old.out.ghost_name }
+        ensures mode { self.new.mode ≡ self.old.mode }
+        ensures value { end_after result self.new.end ≡ written_end (row self.old.mode).width units.now self.old.out.now self.old.end }
+        ensures output { self.new.out.now ≡ units_written (row self.old.mode).width units.now self.old.out.now self.old.end }
+        ensures still { is_err result ≡ true → self.new.end ≡ self.old.end }
+        ensures refused { IfErr result (λ e. e ≡ OutputLength (min (self.old.end + length (bytes_of (row self.old.mode).width units.now)) (2 ^ 64 - 1))) }
+    {
+        let size = unit_size(self.mode);
+        if (self.out.len() - self.end) / size < units.len() {
+            let wanted = self.end.saturating_add(size.saturating_mul(units.len()));
+            return Err(Refusal::OutputLength(wanted));
+        }
+        for unit in units {
+            let next = self.end + size;
+            self.out[self.end..next].copy_from_slice(&unit.to_be_bytes()[8 - size..]);
+            self.end = next;
+        }
+        Ok(())
+    }
+}
