@@ -21,9 +21,7 @@ pub fn show(rt: &HostRuntime) -> anyhow::Result<()> {
 fn show_padded(rt: &HostRuntime, name: &str, digits: &str, zeros: usize) -> anyhow::Result<()> {
     let heap = rt.alloc();
     let mut job = bytes_of(heap, digits)?;
-    for _ in 0..zeros {
-        job.push(0)?;
-    }
+    job.resize(job.len().saturating_add(zeros), 0)?;
     let text = answer(heap, job.as_slice())?;
     print!(rt; "{name}: ")?;
     for line in text.as_str().lines().take(2) {

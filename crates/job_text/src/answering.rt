@@ -21,7 +21,7 @@ pub fn answer(heap: Global, job: &[u8]) -> Result<String, AllocError>
     let mut room = vec![in heap; 0; DATA_LIMIT]?;
     let out = room.as_mut_slice();
     match run_job(job, out) {
-        Ok(report) => report_lines(heap, report.units, report.cycles, &out[..report.bytes]),
+        Ok(report) => report_lines(heap, report, &out[..report.bytes]),
         Err(refusal) => refusal_line(heap, refusal),
     }
 }

@@ -17,6 +17,7 @@ use modes::order::Order;
 use modes::way::Way;
 use refusals::Refusal;
 use runs::cartridge::Cartridge;
+use runs::run::heading::{Receiving, Sending};
 
 /// Runs a job: its units are fed in order to one run on a new cartridge, which is drained once, at the end. Writes as many
 /// bytes as the data has, first in the output, and leaves its rest; where it is refused it leaves all of it.
@@ -69,7 +70,7 @@ fn run_on<E: Engine + Drop>(
 {
     let cartridge = Cartridge::new(engine);
     match way {
-        Way::Enciphering => carry_out(cartridge.start_enciphering(order), order, data, out),
-        Way::Deciphering => carry_out(cartridge.start_deciphering(order), order, data, out),
+        Way::Enciphering => carry_out(cartridge.start(order, Sending), order, data, out),
+        Way::Deciphering => carry_out(cartridge.start(order, Receiving), order, data, out),
     }
 }

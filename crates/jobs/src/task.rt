@@ -40,13 +40,13 @@ impl Task {
 fn only_byte(tag: Tag, field: &[u8]) -> Result<u8, Refusal>
     ensures { result ≡ only_byte_of tag field.now }
 {
-    if field.len() == 1 {
-        Ok(field[0])
-    } else {
-        Err(Refusal::FieldLength(tag.into()))
+    match field {
+        [byte] => Ok(*byte),
+        _ => Err(Refusal::FieldLength(tag.into())),
     }
 }
 
+/// The way that a direction names. No `TryFrom` is written for it, since the way is of the crate `modes` and the numbers are the job's.
 fn way_named(direction: u8) -> Result<Way, Refusal>
     ensures { result ≡ way_of_direction direction }
 {
@@ -61,9 +61,7 @@ fn way_named(direction: u8) -> Result<Way, Refusal>
 fn open(code: u8, direction: u8, initial_values: &[u8]) -> Result<(Order, Way), Refusal>
     ensures { order_and_way result ≡ opened_for (with_code code) code direction initial_values.now }
 {
-    if Mode::from_code(code).is_none() {
-        return Err(Refusal::UnknownCode(code));
-    }
+    Mode::try_from(code)?;
     let way = way_named(direction)?;
     let order = Order::check(code, initial_values)?;
     Ok((order, way))

@@ -8,19 +8,19 @@ use Rattle.jobs.proofs.running.run_on.Goals as goal
 pub returns-in-Enciphering : goal.returns-in-Enciphering
 returns-in-Enciphering g c =
     let machine = g.E.Engine.machine in
-    let run = c.start_enciphering.result in
-    let empty = c.start_enciphering.ensures.engine ∙ ap (λ x. emptied (machine x)) c.new-cartridge.ensures.engine in
+    let run = c.start.result in
+    let empty = c.start.ensures.engine ∙ ap (λ x. emptied (machine x)) c.new-cartridge.ensures.engine in
     let p = on_new_cartridge (machine c.args.engine) (machine run.engine) run.frame c.args.order Enciphering c.args.«data».now
     c.args.out.now c.carry_out.new.out c.carry_out.result empty
-    (c.start_enciphering.ensures.started new c.new-cartridge.ensures.rests) c.requires c.carry_out.ensures in
+    (c.start.ensures.started new c.new-cartridge.ensures.rests) c.requires c.carry_out.ensures in
     rw c.in-Enciphering.is (record { answer = p.0; output = p.1 })
 
 pub returns-in-Deciphering : goal.returns-in-Deciphering
 returns-in-Deciphering g c =
     let machine = g.E.Engine.machine in
-    let run = c.start_deciphering.result in
-    let empty = c.start_deciphering.ensures.engine ∙ ap (λ x. emptied (machine x)) c.new-cartridge.ensures.engine in
+    let run = c.start-in-Deciphering.result in
+    let empty = c.start-in-Deciphering.ensures.engine ∙ ap (λ x. emptied (machine x)) c.new-cartridge.ensures.engine in
     let p = on_new_cartridge (machine c.args.engine) (machine run.engine) run.frame c.args.order Deciphering c.args.«data».now
     c.args.out.now c.carry_out-in-Deciphering.new.out c.carry_out-in-Deciphering.result empty
-    (c.start_deciphering.ensures.started new c.new-cartridge.ensures.rests) c.requires c.carry_out-in-Deciphering.ensures in
+    (c.start-in-Deciphering.ensures.started new c.new-cartridge.ensures.rests) c.requires c.carry_out-in-Deciphering.ensures in
     rw c.in-Deciphering.is (record { answer = p.0; output = p.1 })
