@@ -1,5 +1,5 @@
 -- What it means that data is checked.
-use Rattle.std.proofs.Common.{◌≡◌, ℕ, ◌%◌, ◌<◌, ◌≤◌, Bool, true, false, cond, eqb, ltb, List, length, Some, None, Ok, Err, Option, Result, sym, refl, ap, ◌∙◌, arith}
+use Rattle.std.proofs.Common.{◌≡◌, ℕ, ◌%◌, ◌<◌, ◌≤◌, Bool, true, false, is_ok, cond, eqb, ltb, List, length, Some, None, Ok, Err, Option, Result, sym, refl, ap, ◌∙◌, arith}
 use Rattle.std.proofs.lemmas.Bool.{cond-true, cond-false, lt-ltb, le-ltb, ltb-false, eq-eqb, eqb-true}
 use Rattle.refusals.specs.declared.Refusal.{Refusal}
 use Rattle.refusals.specs.declared.Refusal.TheVariants.{DataLength, PartialUnit, UnitWidth, OutputLength}
@@ -52,3 +52,25 @@ module _ (m : Mode) (bytes : List ℕ) (room : ℕ) where
       all false true None true a b c d e = let z : ◌≡◌ {A = ℕ} 0 1 = cc in absurd (omega arith)
       all false true None false a b c d e =
           record { few = ltb-false _ _ a; whole = eqb-true _ _ b; narrow = c; roomy = ltb-false _ _ d }
+
+-- ---- what a passage knows of its data
+
+module _ (m : Mode) (bytes : List ℕ) (room : ℕ) where
+  -- with as much room as it has bytes
+  pub checked_alone : Ok (tt {0}) ≡ data_checked m bytes room → is_ok (data_checked m bytes (length bytes)) ≡ true
+  checked_alone e =
+      let pass = passing m bytes room (sym e) in
+      ap is_ok (passed m bytes (length bytes) pass.few pass.whole (sym pass.narrow) (omega arith))
+
+  pub checked_within : Ok (tt {0}) ≡ data_checked m bytes room → length bytes ≤ room
+  checked_within e = (passing m bytes room (sym e)).roomy
+
+  -- and so with any room for them
+  pub with_room : is_ok (data_checked m bytes (length bytes)) ≡ true → length bytes ≤ room → data_checked m bytes room ≡ Ok (tt {0})
+  with_room alone l =
+      let pass = passing m bytes (length bytes) (ok_is _ alone) in
+      passed m bytes room pass.few pass.whole (sym pass.narrow) l
+    where
+      ok_is : (r : Result (Unit {0}) Refusal) → is_ok r ≡ true → r ≡ Ok tt
+      ok_is (Ok done) e = refl
+      ok_is (Err x) e = cc

@@ -1,20 +1,19 @@
 -- What the fields of a job ask for. Where several refusals apply, the first in the order written here is answered.
-use Rattle.std.specs.Prelude.{ℕ, ◌%◌, cond, List, length, Some, None, Ok, Err, Option, Result, ◌==◌, nat_lt, slice_index}
+use Rattle.std.specs.Prelude.{ℕ, cond, List, length, Some, None, Ok, Err, Option, Result, ◌==◌, slice_index}
 use Rattle.refusals.specs.declared.Refusal.{Refusal}
-use Rattle.refusals.specs.declared.Refusal.TheVariants.{UnknownCode, FieldLength, UnknownDirection, DataLength, PartialUnit, UnitWidth, OutputLength}
+use Rattle.refusals.specs.declared.Refusal.TheVariants.{UnknownCode, FieldLength, UnknownDirection}
 use Rattle.modes.specs.declared.mode.Mode.{Mode}
 use Rattle.modes.specs.declared.order.Order.{Order}
 use Rattle.modes.specs.declared.way.Way.{Way}
 use Rattle.modes.specs.declared.way.Way.TheVariants.{Enciphering, Deciphering}
-use Rattle.modes.specs.Table.{row, with_code}
+use Rattle.modes.specs.Table.{with_code}
 use Rattle.modes.specs.Orders.{Opening, opening, opened}
-use Rattle.modes.specs.Widths.{first_wide}
 use Rattle.job_format.specs.declared.tag.Tag.{Tag}
 use Rattle.job_format.specs.declared.tag.Tag.TheVariants.{Code, Direction}
 use Rattle.job_format.specs.Tags.{tag_number}
 use Rattle.job_format.specs.Fields.{Parts, and_then}
-use Rattle.job_format.specs.UnitBytes.{unit_size, units_in}
 use Rattle.jobs.specs.declared.task.Task.{Task}
+pub use Rattle.jobs.specs.Checking.{data_limit, data_checked}
 use Rattle.jobs.specs.Keys.{Words, keys_loaded, words_held}
 
 -- a field of one byte
@@ -37,21 +36,6 @@ opening_of p =
     and_then (only_byte_of Direction p.direction) (λ direction.
     opened_for (with_code code) code direction p.initial_values))
 
--- the most bytes of data
-abbrev pub data_limit : ℕ
-data_limit = 32768
-
--- the data is not too long, is whole units, none of them too wide, and has room
-abbrev pub data_checked : Mode → List ℕ → (room : ℕ) → Result (Unit {0}) Refusal
-data_checked m bytes room =
-    cond (nat_lt data_limit (length bytes)) (Err (DataLength (length bytes)))
-    (cond (length bytes % unit_size (row m).width == 0)
-    (elim (first_wide (row m).width 0 (units_in (row m).width bytes)) [
-      | Some i ↦ Err (UnitWidth i)
-      | None ↦ cond (nat_lt room (length bytes)) (Err (OutputLength (length bytes))) (Ok tt)
-    ])
-    (Err (PartialUnit (length bytes))))
-
 -- keys, an opening and a way for a run, and the bytes of its units
 pub record Asked : Type 0 where
   pub words : Words
@@ -73,9 +57,9 @@ abbrev pub order_and_way : Result (Order × Way) Refusal → Result (Opening × 
 order_and_way (Ok o) = Ok (opening o.0, o.1)
 order_and_way (Err e) = Err e
 
-abbrev pub task_asked : Task → List ℕ → Asked
-task_asked t bytes = record { words = words_held t.keys; opening = opening t.order; way = t.way; bytes = bytes }
+abbrev pub task_asked : Task → Asked
+task_asked t = record { words = words_held t.keys; opening = opening t.passage.order; way = t.passage.way; bytes = t.passage.«data».now }
 
-abbrev pub task_in : Result Task Refusal → List ℕ → Result Asked Refusal
-task_in (Ok t) bytes = Ok (task_asked t bytes)
-task_in (Err e) bytes = Err e
+abbrev pub task_in : Result Task Refusal → Result Asked Refusal
+task_in (Ok t) = Ok (task_asked t)
+task_in (Err e) = Err e

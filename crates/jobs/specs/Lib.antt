@@ -1,3 +1,4 @@
+pub mod Checking
 pub mod Keys
 pub mod Asking
 pub mod Meaning

@@ -4,11 +4,11 @@ ghost use Rattle.runs.specs.Standing.{SameEngine};
 ghost use Rattle.runs.specs.Stands.{of_run};
 ghost use Rattle.jobs.specs.Carrying.{FedOn, DrainedOff, CarriedOut};
 
+use super::passage::Passage;
 use super::report::Report;
 use engines::engine::{Engine, GREATEST_DEPTH};
 use job_format::units::reading::UnitReader;
 use job_format::units::writing::UnitWriter;
-use modes::order::Order;
 use refusals::Refusal;
 use runs::run::Run;
 
@@ -42,14 +42,14 @@ fn drain_off<E: Engine, W>(run: &mut Run<E, W>, writer: &mut UnitWriter<'_>) -> 
 /// Feeds all units one by one, drains once at the end, and tells the numbers of the run.
 fn carry<E: Engine, W>(
     run: &mut Run<E, W>,
-    order: Order,
-    data: &[u8],
+    passage: Passage<'_>,
     out: &mut [u8],
 ) -> Result<Report, Refusal>
-    ensures { CarriedOut (E.Engine.machine run.old.engine) run.old.frame order.mode «data».now out.old out.new result }
+    ensures { CarriedOut (E.Engine.machine run.old.engine) run.old.frame passage.entry.order.mode passage.entry.«data».now out.old out.new result }
 {
-    let mut writer = UnitWriter::new(order.mode(), out);
-    for unit in UnitReader::new(order.mode(), data) {
+    let mode = passage.order.mode();
+    let mut writer = UnitWriter::new(mode, out);
+    for unit in UnitReader::new(mode, passage.data) {
         feed_unit(run, unit, &mut writer)?;
     }
     drain_off(run, &mut writer)?;
@@ -63,13 +63,12 @@ fn carry<E: Engine, W>(
 /// The same, and closes the run whatever it answered.
 pub(crate) fn carry_out<E: Engine + Drop, W: Drop>(
     mut run: Run<E, W>,
-    order: Order,
-    data: &[u8],
+    passage: Passage<'_>,
     out: &mut [u8],
 ) -> Result<Report, Refusal>
-    ensures { CarriedOut (E.Engine.machine run.engine) run.frame order.mode «data».now out.old out.new result }
+    ensures { CarriedOut (E.Engine.machine run.engine) run.frame passage.entry.order.mode passage.entry.«data».now out.old out.new result }
 {
-    let answer = carry(&mut run, order, data, out);
+    let answer = carry(&mut run, passage, out);
     drop(run.close());
     answer
 }

@@ -4,6 +4,7 @@
 mod carrying;
 pub mod export;
 mod key_set;
+mod passage;
 pub mod report;
 pub mod running;
 mod task;

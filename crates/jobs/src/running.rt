@@ -2,18 +2,18 @@
 ghost use Rattle.std.specs.Prelude.{◌≡◌, ◌≤◌, length, IfOk, Ok};
 ghost use Rattle.modes.specs.Orders.{opening};
 ghost use Rattle.calls.specs.Theorem.{Theorem};
-ghost use Rattle.jobs.specs.Asking.{data_limit, data_checked, task_asked};
+ghost use Rattle.jobs.specs.Asking.{data_limit, task_asked};
 ghost use Rattle.jobs.specs.Meaning.{done, done_on, meaning, report_of, reported, output_after, JobsAreRuns, JobsRestore};
 
 use super::carrying::carry_out;
 use super::key_set::KeySet;
+use super::passage::Passage;
 use super::report::Report;
 use super::task::Task;
 use engines::engine::Engine;
 use engines::line::Line;
 use engines::plain::Plain;
 use job_format::fields::Fields;
-use modes::order::Order;
 use modes::way::Way;
 use refusals::Refusal;
 use runs::cartridge::Cartridge;
@@ -31,26 +31,26 @@ pub fn run_job(job: &[u8], out: &mut [u8]) -> Result<Report, Refusal>
 {
     let fields = Fields::read(job)?;
     let task = Task::check(fields, out.len())?;
-    task.run(fields.data, out)
+    task.run(out)
 }
 
-impl Task {
+impl Task<'_> {
     /// One key runs on the plain engine over single DEA, three run on the line.
-    fn run(self, data: &[u8], out: &mut [u8]) -> Result<Report, Refusal>
-        requires { data_checked self.order.mode «data».now (length out.old) ≡ Ok tt }
-        ensures answer { result ≡ Ok (report_of (done (task_asked self «data».now))) }
-        ensures output { out.new ≡ output_after (Ok (done (task_asked self «data».now))) out.old }
+    fn run(self, out: &mut [u8]) -> Result<Report, Refusal>
+        requires { length self.passage.«data».now ≤ length out.old }
+        ensures answer { result ≡ Ok (report_of (done (task_asked self.entry))) }
+        ensures output { out.new ≡ output_after (Ok (done (task_asked self.entry))) out.old }
     {
-        let Task { keys, order, way } = self;
+        let Task { keys, passage } = self;
         match keys {
             KeySet::Single(key) => {
                 let engine = Plain::new(key.into_cipher());
-                run_on(engine, order, way, data, out)
+                run_on(engine, passage, out)
             }
             KeySet::Bundle(bundle) => {
                 let (first, second, third) = bundle.into_ciphers();
                 let engine = Line::new(first, second, third);
-                run_on(engine, order, way, data, out)
+                run_on(engine, passage, out)
             }
         }
     }
@@ -59,18 +59,17 @@ impl Task {
 /// One run over the engine, in a new cartridge.
 fn run_on<E: Engine + Drop>(
     engine: E,
-    order: Order,
-    way: Way,
-    data: &[u8],
+    passage: Passage<'_>,
     out: &mut [u8],
 ) -> Result<Report, Refusal>
-    requires { data_checked order.mode «data».now (length out.old) ≡ Ok tt }
-    ensures answer { result ≡ Ok (report_of (done_on (E.Engine.machine engine) (opening order) way «data».now)) }
-    ensures output { out.new ≡ output_after (Ok (done_on (E.Engine.machine engine) (opening order) way «data».now)) out.old }
+    requires { length passage.«data».now ≤ length out.old }
+    ensures answer { result ≡ Ok (report_of (done_on (E.Engine.machine engine) (opening passage.entry.order) passage.entry.way passage.entry.«data».now)) }
+    ensures output { out.new ≡ output_after (Ok (done_on (E.Engine.machine engine) (opening passage.entry.order) passage.entry.way passage.entry.«data».now)) out.old }
 {
     let cartridge = Cartridge::new(engine);
-    match way {
-        Way::Enciphering => carry_out(cartridge.start(order, Sending), order, data, out),
-        Way::Deciphering => carry_out(cartridge.start(order, Receiving), order, data, out),
+    let order = passage.order;
+    match passage.way {
+        Way::Enciphering => carry_out(cartridge.start(order, Sending), passage, out),
+        Way::Deciphering => carry_out(cartridge.start(order, Receiving), passage, out),
     }
 }

@@ -1,11 +1,13 @@
 //! What a job asks for, checked.
-ghost use Rattle.std.specs.Prelude.{◌≡◌, IfOk, Ok};
+ghost use Rattle.std.specs.Prelude.{◌≡◌, ◌≤◌, length, IfOk};
 ghost use Rattle.modes.specs.Table.{with_code};
 ghost use Rattle.job_format.specs.Fields.{parts_in};
-ghost use Rattle.jobs.specs.Asking.{only_byte_of, way_of_direction, opened_for, opening_of, order_and_way, data_checked, task_of, task_in};
+ghost use Rattle.jobs.specs.Checking.{data_checked};
+ghost use Rattle.jobs.specs.Asking.{only_byte_of, way_of_direction, opened_for, opening_of, order_and_way, task_of, task_in};
 
 use super::DATA_LIMIT;
 use super::key_set::KeySet;
+use super::passage::Passage;
 use job_format::fields::Fields;
 use job_format::tag::Tag;
 use job_format::units::reading::first_too_wide;
@@ -15,24 +17,29 @@ use modes::order::Order;
 use modes::way::Way;
 use refusals::Refusal;
 
-/// Loaded keys, and an order and a way for the run that takes the job's data.
+/// Loaded keys, and what the run over them does.
 #[derive(Drop)]
-pub(crate) struct Task {
+pub(crate) struct Task<'a> {
     pub(crate) keys: KeySet,
-    pub(crate) order: Order,
-    pub(crate) way: Way,
+    pub(crate) passage: Passage<'a>,
 }
 
-impl Task {
+impl<'a> Task<'a> {
     /// What the five fields ask for, with so much room for the output.
-    pub(crate) fn check(fields: Fields<'_>, room: usize) -> Result<Task, Refusal>
-        ensures value { task_in result fields.entry.«data».now ≡ task_of (parts_in fields.entry) room }
-        ensures ready { IfOk result (λ t. data_checked t.order.mode fields.entry.«data».now room ≡ Ok tt) }
+    #[tactic(auto, using(crate::proofs::Checked::checked_alone, crate::proofs::Checked::checked_within))]
+    pub(crate) fn check(fields: Fields<'a>, room: usize) -> Result<Task<'a>, Refusal>
+        ensures value { task_in result ≡ task_of (parts_in fields.entry) room }
+        ensures room { IfOk result (λ t. length t.passage.«data».now ≤ room) }
     {
         let keys = KeySet::load(fields.keys)?;
         let (order, way) = check_opening(fields)?;
         check_data(order.mode(), fields.data, room)?;
-        Ok(Task { keys, order, way })
+        let passage = Passage {
+            order,
+            way,
+            data: fields.data,
+        };
+        Ok(Task { keys, passage })
     }
 }
 

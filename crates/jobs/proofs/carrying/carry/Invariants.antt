@@ -10,8 +10,8 @@ abbrev pub invariant-loop-unit : goal.invariant-loop-unit
 invariant-loop-unit g l = record {
   same : SameEngine (g.E.Engine.machine l.initial.run.engine) (g.E.Engine.machine l.run.engine);
   fed : FedSome (g.E.Engine.machine l.initial.run.engine) (g.E.Engine.machine l.run.engine) l.initial.run.frame l.run.frame
-      l.fn.order.mode l.«data» l.initial.writer.out.now l.writer.out.now (length l.yielded) l.writer.end;
-  left : units_in (row l.fn.order.mode).width l.«data» ≡ l.yielded ++ units_left l.unit-iterator;
+      l.fn.passage.order.mode l.fn.passage.«data».now l.initial.writer.out.now l.writer.out.now (length l.yielded) l.writer.end;
+  left : units_in (row l.fn.passage.order.mode).width l.fn.passage.«data».now ≡ l.yielded ++ units_left l.unit-iterator;
   reference : l.writer.out.ghost_name ≡ l.initial.writer.out.ghost_name;
-  mode : l.writer.mode ≡ l.fn.order.mode;
+  mode : l.writer.mode ≡ l.fn.passage.order.mode;
 }

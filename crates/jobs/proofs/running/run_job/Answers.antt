@@ -4,6 +4,7 @@ use Rattle.calls.proofs.Whole.{theorem}
 use Rattle.job_format.specs.Fields.{parts_in}
 use Rattle.jobs.specs.Asking.{task_asked}
 use Rattle.jobs.proofs.AsRuns.{jobs_are_runs}
+use Rattle.jobs.proofs.Checked.{with_room}
 use Rattle.jobs.proofs.Told.{fields_refused, task_refused, task_done, limited}
 use Rattle.jobs.proofs.Restoring.{jobs_restore}
 use Rattle.jobs.proofs.running.run_job.Goals as goal
@@ -25,7 +26,8 @@ pub returns : goal.returns
 returns c =
     let fields = c.in_ok-fields.fields in
     let task = c.in_ok-task.task in
-    let asked = task_asked task fields.«data».now in
+    let asked = task_asked task in
     let t = task_done c.args.job.now c.args.out.now (parts_in fields) c.in_ok-fields.ensures.value asked
     c.run.new.out c.run.result c.in_ok-task.ensures.value c.run.ensures.answer c.run.ensures.output in
-    record { answer = t.0; output = t.1; limit = limited asked (length c.args.out.now) c.run.result c.in_ok-task.ensures.ready c.run.ensures.answer; theorem = theorem; runs = jobs_are_runs; restoring = jobs_restore }
+    let checked = with_room _ _ (length c.args.out.now) task.passage.checked c.in_ok-task.ensures.room in
+    record { answer = t.0; output = t.1; limit = limited asked (length c.args.out.now) c.run.result checked c.run.ensures.answer; theorem = theorem; runs = jobs_are_runs; restoring = jobs_restore }
