@@ -18,14 +18,13 @@ pub fn show(rt: &HostRuntime) -> anyhow::Result<()> {
 fn show_in(rt: &HostRuntime, name: &str, digits: &str, room: usize) -> anyhow::Result<()> {
     let heap = rt.alloc();
     let job = bytes_of(heap, digits)?;
-    let before = vec![in heap; 0xA5u8; room]?;
     let mut out = vec![in heap; 0xA5u8; room]?;
     match run_job(job.as_slice(), out.as_mut_slice()) {
         Ok(_) => println!(rt; "{name}: run")?,
         Err(refusal) => {
             let number = refusal.number();
             let detail = refusal.detail();
-            let same = out.as_slice() == before.as_slice();
+            let same = out.as_slice().iter().all(|byte| *byte == 0xA5);
             println!(rt; "{name}: REFUSED {number} {detail}, output unchanged: {same}")?;
         }
     }

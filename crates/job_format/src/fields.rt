@@ -18,6 +18,7 @@ pub struct Fields<'a> {
 
 impl<'a> Fields<'a> {
     /// Reads a job's five fields, behind which nothing may be left. What is read is what was written, and nothing else is read.
+    #[tactic(auto, using(crate::proofs::JobBytes::format))]
     pub fn read(job: &'a [u8]) -> Result<Fields<'a>, Refusal>
         ensures value { parts_of result ≡ fields_of job.now }
         ensures format { Format }

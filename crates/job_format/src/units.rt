@@ -9,6 +9,7 @@ ghost use Rattle.job_format.specs.UnitBytes.{unit_size, UnitsInBytes};
 use modes::mode::Mode;
 
 /// How many bytes a unit takes. Units that were written are read, and bytes that are whole units are written as they were read.
+#[tactic(auto, using(crate::proofs::WrittenAndRead::units_in_bytes))]
 pub fn unit_size(mode: Mode) -> usize
     ensures value { result ≡ unit_size (row mode).width }
     ensures some { 1 ≤ result }

@@ -12,6 +12,7 @@ use std::alloc::{AllocError, Global};
 
 /// The text that tells what became of a job: units, cycles and results, or why it is refused; an error only for want of memory. Its
 /// contract also carries the theorem over all lists of calls, that a job is one run, and that a job that goes back restores the data.
+#[tactic(auto, using(calls::proofs::Whole::theorem, jobs::proofs::AsRuns::jobs_are_runs))]
 pub fn answer(heap: Global, job: &[u8]) -> Result<String, AllocError>
     ensures text { IfOk result (λ s. string_bytes s ≡ answer_text (meaning job.now data_limit)) }
     ensures theorem { Theorem }

@@ -21,6 +21,7 @@ use runs::run::heading::{Receiving, Sending};
 
 /// Runs a job: its units are fed in order to one run on a new cartridge, which is drained once, at the end. Writes as many
 /// bytes as the data has, first in the output, and leaves its rest; where it is refused it leaves all of it.
+#[tactic(auto, using(calls::proofs::Whole::theorem, crate::proofs::AsRuns::jobs_are_runs))]
 pub fn run_job(job: &[u8], out: &mut [u8]) -> Result<Report, Refusal>
     ensures answer { result ≡ reported (meaning job.now (length out.old)) }
     ensures output { out.new ≡ output_after (meaning job.now (length out.old)) out.old }

@@ -84,6 +84,7 @@ fn check_opening(fields: Fields<'_>) -> Result<(Order, Way), Refusal>
 }
 
 /// That data is whole units of the mode, none too wide, and that there is room for as many bytes.
+#[tactic(auto, using(crate::proofs::Checked::refused_wide, crate::proofs::Checked::refused_room, crate::proofs::Checked::passed))]
 fn check_data(mode: Mode, data: &[u8], room: usize) -> Result<(), Refusal>
     ensures { result ≡ data_checked mode «data».now room }
 {
