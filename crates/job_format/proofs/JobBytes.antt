@@ -44,7 +44,7 @@ job_is_read p job is =
 pub not_refused : {A B C : Type 0} (r : Result A Refusal) (on : A → Result B Refusal) (y : B) → and_then r on ≡ Ok y
     → ((x : A) → r ≡ Ok x → on x ≡ Ok y → C) → C
 not_refused (Ok x) on y e go = go x refl e
-not_refused (Err x) on y e go = let z : ◌≡◌ {A = ℕ} 0 1 = cc in absurd (omega arith)
+not_refused (Err x) on y e go = cc
 
 job_was_written : (job : List ℕ) (p : Parts) → Bytes job → fields_of job ≡ Ok p → (job ≡ job_bytes p) × Fitting p
 job_was_written job p bytes e =

@@ -46,12 +46,17 @@ module _ (m : Mode) (bytes : List ℕ) (room : ℕ) where
           (cond whole (elim found [ Some i ↦ Err (UnitWidth i) | None ↦ cond short (Err (OutputLength (length bytes))) (Ok tt) ]) (Err (PartialUnit (length bytes))))
           ≡ Ok (tt {0})
           → Passing m bytes room
-      all true whole found short a b c d e = let z : ◌≡◌ {A = ℕ} 0 1 = cc in absurd (omega arith)
-      all false false found short a b c d e = let z : ◌≡◌ {A = ℕ} 0 1 = cc in absurd (omega arith)
-      all false true (Some i) short a b c d e = let z : ◌≡◌ {A = ℕ} 0 1 = cc in absurd (omega arith)
-      all false true None true a b c d e = let z : ◌≡◌ {A = ℕ} 0 1 = cc in absurd (omega arith)
+      all true whole found short a b c d e = cc
+      all false false found short a b c d e = cc
+      all false true (Some i) short a b c d e = cc
+      all false true None true a b c d e = cc
       all false true None false a b c d e =
           record { few = ltb-false _ _ a; whole = eqb-true _ _ b; narrow = c; roomy = ltb-false _ _ d }
+
+module _ (m : Mode) (bytes : List ℕ) (room : ℕ) where
+  -- and such data passes
+  pub accepted : Passing m bytes room → data_checked m bytes room ≡ Ok (tt {0})
+  accepted pass = passed m bytes room pass.few pass.whole (sym pass.narrow) pass.roomy
 
 -- ---- what a passage knows of its data
 
@@ -60,7 +65,7 @@ module _ (m : Mode) (bytes : List ℕ) (room : ℕ) where
   pub checked_alone : Ok (tt {0}) ≡ data_checked m bytes room → is_ok (data_checked m bytes (length bytes)) ≡ true
   checked_alone e =
       let pass = passing m bytes room (sym e) in
-      ap is_ok (passed m bytes (length bytes) pass.few pass.whole (sym pass.narrow) (omega arith))
+      ap is_ok (accepted m bytes (length bytes) (record { few = pass.few; whole = pass.whole; narrow = pass.narrow; roomy = omega arith }))
 
   pub checked_within : Ok (tt {0}) ≡ data_checked m bytes room → length bytes ≤ room
   checked_within e = (passing m bytes room (sym e)).roomy
@@ -69,7 +74,7 @@ module _ (m : Mode) (bytes : List ℕ) (room : ℕ) where
   pub with_room : is_ok (data_checked m bytes (length bytes)) ≡ true → length bytes ≤ room → data_checked m bytes room ≡ Ok (tt {0})
   with_room alone l =
       let pass = passing m bytes (length bytes) (ok_is _ alone) in
-      passed m bytes room pass.few pass.whole (sym pass.narrow) l
+      accepted m bytes room (record { few = pass.few; whole = pass.whole; narrow = pass.narrow; roomy = l })
     where
       ok_is : (r : Result (Unit {0}) Refusal) → is_ok r ≡ true → r ≡ Ok tt
       ok_is (Ok done) e = refl

@@ -30,7 +30,7 @@ use Rattle.job_format.proofs.WrittenAndRead.{units_in_bytes}
 use Rattle.jobs.specs.Keys.{Words, one, three, keys_loaded, machine_under}
 use Rattle.jobs.specs.Asking.{only_byte_of, opened_for, opening_of, data_checked, task_of}
 use Rattle.jobs.specs.Meaning.{done_on, done, Back, JobsRestore}
-use Rattle.jobs.proofs.Checked.{Passing, passing, passed}
+use Rattle.jobs.proofs.Checked.{Passing, passing, accepted}
 
 -- ---- what the parts of a job promise
 
@@ -124,7 +124,7 @@ turned_round p q sent ow all back e =
   where
     by_mode : (m : Option Mode) (code : ℕ) → opened_for m code 1 p.initial_values ≡ Ok ow
         → (ow.1 ≡ Enciphering) × Begins ow.0.mode ow.0.values × (opened_for m code 2 p.initial_values ≡ Ok (ow.0, Deciphering))
-    by_mode None code e = let z : ◌≡◌ {A = ℕ} 0 1 = cc in absurd (omega arith)
+    by_mode None code e = cc
     by_mode (Some m) code e =
         not_refused (opened m p.initial_values) _ ow e (λ o o_is e.
         let is : (o, Enciphering) ≡ ow = cc in (
@@ -150,7 +150,7 @@ jobs_restore job back room room' p q d all fields fields' means way_back fits =
     (subst (λ d. length d.bytes ≤ room') is fits) in
     let arrives : q.«data» ≡ (done_on mach o Enciphering p.«data»).bytes = way_back.arrives ∙ ap (λ d. d.bytes) is in
     let again : data_checked o.mode q.«data» room' ≡ Ok (tt {0}) =
-    ap (λ l. data_checked o.mode l room') arrives ∙ passed o.mode _ room' c.passes.few c.passes.whole (sym c.passes.narrow) c.passes.roomy in
+    ap (λ l. data_checked o.mode l room') arrives ∙ accepted o.mode _ room' c.passes in
     let task : task_of q room' ≡ Ok (record { words = words; opening = o; way = Deciphering; bytes = q.«data» }) =
     ap (λ k. and_then (keys_loaded k) (λ words. and_then (opening_of q) (λ o. and_then (data_checked o.0.mode q.«data» room') (λ _. Ok (record { words = words; opening = o.0; way = o.1; bytes = q.«data» }))))) way_back.keys
     ∙ rw (keys-are, t.2, again) in (

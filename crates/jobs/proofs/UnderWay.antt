@@ -37,7 +37,7 @@ told xs ys hs (Err e) a = absurd a
 
 ended : (r : Result (Unit {0}) Refusal) (end n : ℕ) → end_after r end ≡ Some n → (r ≡ Ok tt) × (end ≡ n)
 ended (Ok done) end n e = (refl, cc)
-ended (Err e') end n e = let z : ◌≡◌ {A = ℕ} 0 1 = cc in absurd (omega arith)
+ended (Err e') end n e = cc
 
 module _ (mach mach' : Machine) (f f' : Frame) (order : Order) (way : Way) (us xs ys : List ℕ) (offset : ℕ)
     (uw : UnderWay mach f order way us xs ys offset) where
@@ -155,7 +155,7 @@ module _ (mach mach' : Machine) (f f' : Frame) (order : Order) (way : Way) (us x
         )
 
 pub err_is_not_ok : {A : Type 0} (e : Refusal) (x : A) → Err e ≡ Ok x → ⊥
-err_is_not_ok e x is = let z : ◌≡◌ {A = ℕ} 0 1 = cc in absurd (omega arith)
+err_is_not_ok e x is = cc
 
 -- ---- the same by the calls' contracts: u is the unit, the list rs takes what comes out
 

@@ -9,6 +9,7 @@ pub fn tdea_run(job: &[u8], out: &mut [u8]) -> i64
     ensures answer { result ≡ signed (reported (meaning job.now (length out.old))) }
     ensures output { out.new ≡ output_after (meaning job.now (length out.old)) out.old }
 {
+    // One number tells a length or a refusal, since programs in C read it.
     match run_job(job, out) {
         Ok(report) => report.bytes as i64,
         Err(refusal) => -i64::from(refusal.number()),

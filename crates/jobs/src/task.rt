@@ -53,7 +53,8 @@ fn only_byte(tag: Tag, field: &[u8]) -> Result<u8, Refusal>
     }
 }
 
-/// The way that a direction names. No `TryFrom` is written for it, since the way is of the crate `modes` and the numbers are the job's.
+/// The way that a direction names.
+// No `TryFrom`: the way belongs to the crate `modes`, which knows nothing of a job's numbers, and an impl here would be of a foreign type.
 fn way_named(direction: u8) -> Result<Way, Refusal>
     ensures { result ≡ way_of_direction direction }
 {

@@ -57,6 +57,7 @@ impl<'a> UnitWriter<'a> {
             let wanted = self.end.saturating_add(size.saturating_mul(units.len()));
             return Err(Refusal::OutputLength(wanted));
         }
+        // Tried over `chunks_exact_mut`: what is written through its chunks stays unknown, and the proof did not close.
         for unit in units {
             let next = self.end + size;
             self.out[self.end..next].copy_from_slice(&unit.to_be_bytes()[8 - size..]);
