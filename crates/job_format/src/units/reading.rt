@@ -48,5 +48,5 @@ impl Iterator for UnitReader<'_> {
 pub fn first_too_wide(mode: Mode, bytes: &[u8]) -> Option<usize>
     ensures { result ≡ first_wide (row mode).width 0 (units_in (row mode).width bytes.now) }
 {
-    mode.first_too_wide(UnitReader::new(mode, bytes))
+    UnitReader::new(mode, bytes).position(|unit| !mode.admits(unit))
 }
