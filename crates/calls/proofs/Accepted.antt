@@ -6,7 +6,8 @@ use Rattle.refusals.specs.declared.Refusal.{Refusal}
 use Rattle.modes.specs.Values.{Units}
 use Rattle.calls.specs.Limits.{unit_limit}
 use Rattle.calls.specs.Calls.{gave, refused}
-use Rattle.calls.specs.Due.{first_wide, refusal_to_feed, refusal_to_drain}
+use Rattle.modes.specs.Widths.{first_wide}
+use Rattle.calls.specs.Due.{refusal_to_feed, refusal_to_drain}
 
 -- units among which no wide one is found
 pub none_wide : (w i : ℕ) (us : List ℕ) → first_wide w i us ≡ None → Units w us

@@ -1,6 +1,5 @@
 pub mod Stretching
 pub mod Accepted
-pub mod Wides
 pub mod OpenRun
 pub mod Counting
 pub mod EachRun

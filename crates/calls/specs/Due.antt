@@ -3,7 +3,7 @@ use Rattle.std.specs.Prelude.{◌≡◌, ℕ, ◌+◌, ◌-◌, Bool, true, cond
 use Rattle.refusals.specs.declared.Refusal.TheVariants.{OutputLength, UnitWidth, UnitLimit}
 use Rattle.modes.specs.Table.{row, distance_of}
 use Rattle.modes.specs.Values.{listed}
-pub use Rattle.modes.specs.Widths.{first_wide}
+use Rattle.modes.specs.Widths.{first_wide}
 use Rattle.modes.specs.Results.{results}
 use Rattle.calls.specs.Limits.{unit_limit}
 use Rattle.calls.specs.Stretches.{passed, inside}

@@ -13,7 +13,8 @@ use Rattle.modes.specs.Values.{listed}
 use Rattle.modes.specs.Results.{results}
 use Rattle.calls.specs.Limits.{unit_limit}
 use Rattle.calls.specs.Calls.{gave, Calls, fed, drained, taken, handed_out}
-use Rattle.calls.specs.Due.{first_wide, width_in, count_in, inside_in, Follows}
+use Rattle.modes.specs.Widths.{first_wide}
+use Rattle.calls.specs.Due.{width_in, count_in, inside_in, Follows}
 use Rattle.calls.proofs.OpenRun.{balanced}
 use Rattle.runs.specs.declared.frame.Frame.{Frame}
 use Rattle.runs.specs.Stands.{Stands}

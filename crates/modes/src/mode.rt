@@ -1,7 +1,7 @@
 //! The eleven modes and the table of their figures.
 ghost use Rattle.std.specs.Prelude.{◌≡◌, ◌^◌, ◌<◌, ◌≤◌, Some, ◌≢◌, nat_lt};
 ghost use Rattle.std.specs.Fmt.{styled_text};
-ghost use Rattle.modes.specs.Table.{row, with_code, mode_of_code, named, distance_of, memory_of, reach_of, CodesNameModes};
+ghost use Rattle.modes.specs.Table.{row, mode_of_code, named, distance_of, memory_of, reach_of, CodesNameModes};
 ghost use Rattle.modes.specs.Bits.{leftmost, shifted};
 ghost use Rattle.modes.specs.Equations.{Equations};
 ghost use Rattle.modes.specs.Laws.{UnitsGiveUnits, Prefix, Restoring, Recovery, Damage};
@@ -72,13 +72,6 @@ impl Mode {
             Mode::Ofb => Row::new(10, Family::OutputFeedback, 64, 1),
             Mode::OfbInterleaved => Row::new(11, Family::OutputFeedback, 64, 3),
         }
-    }
-
-    /// The mode that a code names, if any.
-    pub fn from_code(code: u8) -> Option<Mode>
-        ensures { result ≡ with_code code }
-    {
-        Mode::try_from(code).ok()
     }
 
     /// The code that names the mode. Each mode has its own.

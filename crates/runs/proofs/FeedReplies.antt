@@ -12,7 +12,8 @@ use Rattle.modes.specs.Values.{listed}
 use Rattle.calls.specs.Limits.{unit_limit}
 use Rattle.calls.specs.Stretches.{passed, inside}
 use Rattle.calls.specs.Calls.{Answer, gave, refused, Calls, fed, order_of, way_of, taken, stretch}
-use Rattle.calls.specs.Due.{first_wide, distance_in, width_in, count_in, inside_in, results_in, refusal_to_feed, due_feed, cycles_passed, Follows}
+use Rattle.modes.specs.Widths.{first_wide}
+use Rattle.calls.specs.Due.{distance_in, width_in, count_in, inside_in, results_in, refusal_to_feed, due_feed, cycles_passed, Follows}
 use Rattle.calls.proofs.Stretching.{inside_most, passed_more}
 use Rattle.runs.specs.declared.frame.Frame.{Frame}
 use Rattle.runs.specs.Views.{view}

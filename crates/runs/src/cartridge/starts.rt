@@ -2,14 +2,13 @@
 ghost use Rattle.std.specs.Prelude.{◌≡◌, ◌≤◌};
 ghost use Rattle.modes.specs.Values.{listed};
 ghost use Rattle.engines.specs.Cycles.{emptied};
-ghost use Rattle.modes.specs.declared.way.Way.TheVariants.{Enciphering, Deciphering};
 ghost use Rattle.calls.specs.Limits.{unit_limit};
 ghost use Rattle.calls.specs.Calls.{new as first};
 ghost use Rattle.runs.specs.Stands.{Rests, Started, Fresh};
 
 use super::super::frame::{Frame, Queue};
-use super::super::run::heading::{Heading, Receiving, Sending};
-use super::super::run::{DecipheringRun, EncipheringRun, Run};
+use super::super::run::Run;
+use super::super::run::heading::Heading;
 use super::Cartridge;
 use engines::clocking::clear;
 use engines::engine::Engine;
@@ -73,23 +72,5 @@ impl<E: Engine> Cartridge<E> {
             },
             heading,
         }
-    }
-
-    /// Takes the cartridge into a run that enciphers.
-    pub fn start_enciphering(self, order: Order) -> EncipheringRun<E>
-        ensures started { Started (E.Engine.machine self.engine) (E.Engine.machine result.engine) self.count order Enciphering result.frame }
-        ensures fresh { Fresh result.frame order Enciphering self.count }
-        ensures engine { E.Engine.machine result.engine ≡ emptied (E.Engine.machine self.engine) }
-    {
-        self.start(order, Sending)
-    }
-
-    /// Takes the cartridge into a run that deciphers.
-    pub fn start_deciphering(self, order: Order) -> DecipheringRun<E>
-        ensures started { Started (E.Engine.machine self.engine) (E.Engine.machine result.engine) self.count order Deciphering result.frame }
-        ensures fresh { Fresh result.frame order Deciphering self.count }
-        ensures engine { E.Engine.machine result.engine ≡ emptied (E.Engine.machine self.engine) }
-    {
-        self.start(order, Receiving)
     }
 }
