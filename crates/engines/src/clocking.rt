@@ -1,6 +1,5 @@
 //! What can be done with any engine.
-ghost use Rattle.std.specs.Prelude.{◌≡◌, length, take, replicate, None, slice_set};
-ghost use Rattle.engines.specs.Depths.{the_greatest_depth};
+ghost use Rattle.std.specs.Prelude.{◌≡◌, length, take};
 ghost use Rattle.engines.specs.Cycles.{due, emptied, InTime, later, written_over};
 
 use super::engine::{Engine, GREATEST_DEPTH};
