@@ -5,6 +5,7 @@ ghost use Rattle.jobs.specs.Meaning.{meaning, reported, output_after, signed};
 use super::running::run_job;
 
 /// Runs a job. Answers how many bytes it wrote to the output, or minus the number of the refusal.
+#[tactic(auto, using(std::proofs::lemmas::Int::to_z_pos))]
 pub fn tdea_run(job: &[u8], out: &mut [u8]) -> i64
     ensures answer { result ≡ signed (reported (meaning job.now (length out.old))) }
     ensures output { out.new ≡ output_after (meaning job.now (length out.old)) out.old }
