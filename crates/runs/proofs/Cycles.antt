@@ -46,5 +46,4 @@ module _ (mach mach' : Machine) (m : Mode) (way : Way) (v v1 v2 : View) (work : 
 pub released_at : (m m' : Mode) (way way' : Way) (v v' v'' : View) (answer r : Option ℕ) → m' ≡ m → way' ≡ way → v' ≡ v → Released m' way' v' v'' answer r
     → Released m way v v'' answer r
 released_at m m' way way' v v' v'' answer r em ew ev rel =
-    subst (λ x. Released m way x v'' answer r) ev
-    (subst (λ x. Released m x v' v'' answer r) ew (subst (λ x. Released x way' v' v'' answer r) em rel))
+    rw (sym em, sym ew, sym ev) rel

@@ -49,8 +49,8 @@ drain_refused mach f xs k is small = λ calls stands.
     let e = OutputLength k in
     let due : due_drain mach.forward mach.inverse mach.depth calls room ≡ refused e =
     refusal_told mach f calls stands room _ ∙ drain_refuses (length f.pending.items) room k is small _ in (
-      subst (Answered xs xs (Err e)) (sym due) (refl, refl),
-      subst (λ a. Stands mach f (drained room a calls)) (sym due)
+      rw due (refl, refl),
+      rw due
           (record {
             follows = (sym due, stands.follows);
             at_work = record { sound = w.sound; mode = w.mode; way = w.way; before = w.before; standing = w.standing };
@@ -78,8 +78,8 @@ drain_none mach f xs nothing = λ calls stands.
     (length-drop (length (taken calls) - inside_in mach.depth calls) _
     ∙ omega (arith, length_results mach.forward mach.inverse (order_of calls).mode (way_of calls) (listed (order_of calls).values) (taken calls) (length (taken calls)))) in
     let due : due_drain mach.forward mach.inverse mach.depth calls room ≡ gave [] = due_results mach f calls stands room (omega arith) ∙ ap gave none in (
-      subst (Answered xs xs (Ok 0)) (sym due) (refl, refl),
-      subst (λ a. Stands mach f (drained room a calls)) (sym due)
+      rw due (refl, refl),
+      rw due
           (record {
             follows = (sym due, stands.follows);
             at_work = record { sound = w.sound; mode = w.mode; way = w.way; before = w.before; standing = w.standing };
@@ -173,32 +173,24 @@ module _ (mach : Machine) (places : List (Option ℕ)) (f f' : Frame) (calls : C
           way = w.way;
           before = w.before;
           standing =
-              subst (λ k. Standing (holding mach places) m (way_of calls) ivs (taken calls) (length (taken calls) - 0) 0 0 0 k (view f')) ec
-              (subst (λ k. Standing (holding mach places) m (way_of calls) ivs (taken calls) k 0 0 0 (cycles_earlier D calls + (t + (D - 1))) (view f')) eu
-              (begins_again (holding mach places) m (way_of calls) ivs (taken calls) (units_earlier calls) s (t + (D - 1)) (cycles_earlier D calls) (view f') st));
+              rw (sym eu, sym ec)
+              (begins_again (holding mach places) m (way_of calls) ivs (taken calls) (units_earlier calls) s (t + (D - 1)) (cycles_earlier D calls) (view f') st);
         };
       }
+
+  -- so that the drain answers what is due
+  drained_all : (room : ℕ) → 0 < length f.pending.items → due_drain mach.forward mach.inverse D calls room ≡ gave (results_due mach calls)
+      → Answered xs ys (Ok n) (due_drain mach.forward mach.inverse D calls room)
+      × Stands (holding mach places) f' (drained room (due_drain mach.forward mach.inverse D calls room) calls)
+  drained_all room some due =
+      let inside = inside_told mach f calls stands in
+      let least = inside_most D (distance_in calls) (stretch calls) in
+      let found : 0 < length (results_due mach calls) = omega (arith, ap length wrote_due, length_wrote, everything) in
+      (subst (Answered xs ys (Ok n)) (ap gave wrote_due ∙ sym due) answered_wrote, rw due (stands_drained room (results_due mach calls) found (sym due, stands.follows)))
 
 pub drain_some : (mach mach' : Machine) (f f' : Frame) (xs ys : List ℕ) (n : ℕ) → SameEngine mach mach' → 0 < length f.pending.items
     → length f.pending.items ≤ length xs → Idles mach mach' f f' (mach.depth - 1) 0 n xs ys → Drained mach mach' f f' xs ys (Ok n)
 drain_some mach mach' f f' xs ys n same some large idles = λ calls stands.
-    let places = mach'.row in
-    let room = length xs in
     let hands = idles calls (taken calls) xs (stretch calls) _ (stands_hands mach f calls (taken calls) xs stands stands.at_work) in
-    let hs = results_due mach calls in
-    let is = wrote_due mach places f f' calls stands xs ys n hands in
-    let due = due_results mach f calls stands room large in
-    let found : 0 < length hs =
-    omega (
-      arith,
-      ap length is,
-      length_wrote mach places f f' calls stands xs ys n hands,
-      everything mach places f f' calls stands xs ys n hands,
-      inside_told mach f calls stands,
-      inside_most mach.depth (distance_in calls) (stretch calls),
-    ) in (
-      subst (Answered xs ys (Ok n)) (ap gave is ∙ sym due) (answered_wrote mach places f f' calls stands xs ys n hands),
-      subst (λ a. Stands mach' f' (drained room a calls)) (sym due)
-          (subst (λ m. Stands m f' (drained room (gave hs) calls)) (sym (same_holding mach mach' same))
-          (stands_drained mach places f f' calls stands xs ys n hands room hs found (sym due, stands.follows))),
-    )
+    let a = drained_all mach mach'.row f f' calls stands xs ys n hands (length xs) some (due_results mach f calls stands (length xs) large) in
+    (a.0, rw (same_holding mach mach' same) a.1)

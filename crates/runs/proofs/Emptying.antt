@@ -197,8 +197,7 @@ module _ (mach1 mach2 : Machine) (f1 f2 : Frame) (calls : Calls true) (us xs ys 
         count = omega (arith, p.2, length-append hs ks);
         output = written_behind xs ys ws zs hs ks given count output rest p.3;
         stands =
-            subst (λ room. Stands mach2 f2 (drained room (gave ks) (fed us (length xs) (gave hs) calls))) room_left
-            (subst (λ b. Stands mach2 f2 (drained (length ws) b (fed us (length xs) (gave hs) calls))) p.1 a.1);
+            rw (sym room_left, sym p.1) a.1;
       }
 
 module _ (mach mach1 : Machine) (f f1 : Frame) (us xs ys : List ℕ) where

@@ -11,13 +11,13 @@ use Rattle.modes.specs.Table.{row}
 use Rattle.modes.specs.Values.{listed}
 use Rattle.calls.specs.Limits.{unit_limit}
 use Rattle.calls.specs.Stretches.{passed, inside}
-use Rattle.calls.specs.Calls.{Answer, gave, refused, Calls, fed, order_of, way_of, taken, stretch}
+use Rattle.calls.specs.Calls.{Answer, gave, refused, Calls, fed, order_of, taken, stretch}
 use Rattle.modes.specs.Widths.{first_wide}
 use Rattle.calls.specs.Due.{distance_in, width_in, count_in, inside_in, results_in, refusal_to_feed, due_feed, cycles_passed, Follows}
 use Rattle.calls.proofs.Stretching.{inside_most, passed_more}
 use Rattle.runs.specs.declared.frame.Frame.{Frame}
 use Rattle.runs.specs.Views.{view}
-use Rattle.runs.specs.Standing.{SameEngine, Standing}
+use Rattle.runs.specs.Standing.{SameEngine}
 use Rattle.runs.specs.Stands.{units_earlier, cycles_earlier, out_in, Stands}
 use Rattle.runs.specs.Handing.{holding, unit_in, Handing, Answered, Fed, Pumps}
 use Rattle.runs.proofs.Onwards.{same_holding}
@@ -69,8 +69,8 @@ feed_refused mach f us xs e refuses = λ calls stands.
     let room = length xs in
     let due : due_feed mach.forward mach.inverse mach.depth calls us room ≡ refused e =
     refusal_told mach f calls stands us room _ ∙ refuses _ in (
-      subst (Answered xs xs (Err e)) (sym due) (refl, refl),
-      subst (λ a. Stands mach f (fed us room a calls)) (sym due)
+      rw due (refl, refl),
+      rw due
           (record {
             follows = (sym due, stands.follows);
             at_work = record { sound = w.sound; mode = w.mode; way = w.way; before = w.before; standing = w.standing };
@@ -140,24 +140,21 @@ module _ (mach : Machine) (places : List (Option ℕ)) (f f' : Frame) (calls : C
           way = w.way;
           before = w.before;
           standing =
-              subst (λ k. Standing (holding mach places) m (way_of calls) ivs vs (length vs - s) s (s - inside D δ s) t k (view f')) ec
-              (subst (λ k. Standing (holding mach places) m (way_of calls) ivs vs (length vs - s) s k t (cycles_earlier D calls) (view f')) eh
-              (subst (λ k. Standing (holding mach places) m (way_of calls) ivs vs k s (out_in D calls + n) t (cycles_earlier D calls) (view f')) eu w.standing));
+              rw (sym eu, sym eh, sym ec) w.standing;
         };
       }
+
+  -- so that the feed answers what is due
+  taken_all : (room : ℕ) → due_feed mach.forward mach.inverse D calls us room ≡ gave results_due
+      → Answered xs ys (Ok n) (due_feed mach.forward mach.inverse D calls us room)
+      × Stands (holding mach places) f' (fed us room (due_feed mach.forward mach.inverse D calls us room) calls)
+  taken_all room due =
+      (subst (Answered xs ys (Ok n)) (ap gave wrote_due ∙ sym due) answered_wrote, rw due (stands_fed room results_due (sym due, stands.follows)))
 
 pub feed_taken : (mach mach' : Machine) (f f' : Frame) (us xs ys : List ℕ) (n : ℕ) → SameEngine mach mach'
     → Accepts (length f.pending.items) (row f.mode).width (f.before + f.taken) us (length xs)
     → Pumps mach mach' f f' us (length us) n xs ys → Fed mach mach' f f' us xs ys (Ok n)
 feed_taken mach mach' f f' us xs ys n same accepts pumps = λ calls stands.
-    let places = mach'.row in
-    let room = length xs in
-    let hands = pumps calls stands in
-    let hs = results_due mach places f f' calls stands us xs ys n hands in
-    let due : due_feed mach.forward mach.inverse mach.depth calls us room ≡ gave hs = refusal_told mach f calls stands us room _ ∙ accepts _ in (
-      subst (Answered xs ys (Ok n)) (ap gave (wrote_due mach places f f' calls stands us xs ys n hands) ∙ sym due)
-          (answered_wrote mach places f f' calls stands us xs ys n hands),
-      subst (λ a. Stands mach' f' (fed us room a calls)) (sym due)
-          (subst (λ m. Stands m f' (fed us room (gave hs) calls)) (sym (same_holding mach mach' same))
-          (stands_fed mach places f f' calls stands us xs ys n hands room hs (sym due, stands.follows))),
-    )
+    let a = taken_all mach mach'.row f f' calls stands us xs ys n (pumps calls stands) (length xs)
+    (refusal_told mach f calls stands us (length xs) _ ∙ accepts _) in
+    (a.0, rw (same_holding mach mach' same) a.1)

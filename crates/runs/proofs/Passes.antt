@@ -62,8 +62,7 @@ module _ (mach : Machine) (places : List (Option ℕ)) (f f' : Frame) (calls : C
 cycled_in : (mach mach' : Machine) (f f' : Frame) (calls : Calls true) (us : List ℕ) (s h t : ℕ) (unit r : Option ℕ) → AtWork mach f calls us s h t
     → Cycled mach mach' f.mode f.way (view f) (view f') unit r → Cycled mach mach' (order_of calls).mode (way_of calls) (view f) (view f') unit r
 cycled_in mach mach' f f' calls us s h t unit r work cyc =
-    subst (λ way. Cycled mach mach' (order_of calls).mode way (view f) (view f') unit r) work.way
-    (subst (λ m. Cycled mach mach' m f.way (view f) (view f') unit r) work.mode cyc)
+    rw (sym work.way, sym work.mode) cyc
 
 passes_on : (mach : Machine) (places : List (Option ℕ)) (f f' : Frame) (unit r : Option ℕ) (given : ℕ) (ys : List ℕ) → Kept f f' → given + one_if r ≤ length ys
     → Cycled mach (holding mach places) f.mode f.way (view f) (view f') unit r
@@ -85,11 +84,8 @@ pub passes : (mach mach' : Machine) (f f' : Frame) (unit r : Option ℕ) (given 
     → Passes mach mach' f f' unit given given' ys ys'
 passes mach mach' f f' unit r given given' ys ys' same kept room eg ey cyc =
     let e = same_holding mach mach' same in
-    subst (λ k. Passes mach mach' f f' unit given k ys ys') (sym eg)
-    (subst (λ zs. Passes mach mach' f f' unit given (given + one_if r) ys zs) (sym ey)
-    (subst (λ x. Passes mach x f f' unit given (given + one_if r) ys (written ys given r)) (sym e)
-    (passes_on mach mach'.row f f' unit r given ys kept room
-    (subst (λ x. Cycled mach x f.mode f.way (view f) (view f') unit r) e cyc))))
+    rw (eg, ey, e)
+    (passes_on mach mach'.row f f' unit r given ys kept room (subst (λ x. Cycled mach x f.mode f.way (view f) (view f') unit r) e cyc))
 
 -- the same, seen from the machine with which a call began
 pub passes_from : (mach mach' mach'' : Machine) (f f' : Frame) (unit : Option ℕ) (given given' : ℕ) (ys ys' : List ℕ) → SameEngine mach mach' → SameEngine mach mach''

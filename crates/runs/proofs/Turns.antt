@@ -307,8 +307,7 @@ module _ (mach : Machine) (m : Mode) (way : Way) (ivs us : List ℕ) (ok : Sound
           → Outcome (moved_on mach places) m way ivs us base s h t past v' r
       none_released v' answer r ea rel =
           let none : Released m way (counted v) v' None r = subst (λ a. Released m way (counted v) v' a r) (ea ∙ front_empty) rel in
-          subst (λ x. Outcome (moved_on mach places) m way ivs us base s h t past v' x) (sym none.0)
-          (subst (λ x. Standing (moved_on mach places) m way ivs us base s h (t + 1) past x) (sym none.1) standing_still)
+          rw (none.0, none.1) standing_still
 
     -- the oldest unit inside is due
     module _ (some : h < s) (now : leaving D δ h ≡ t) where
@@ -365,8 +364,7 @@ module _ (mach : Machine) (m : Mode) (way : Way) (ivs us : List ℕ) (ok : Sound
           let few = values_within m in
           let one : Released m way (counted v) v' (Some (y (base + h))) r = subst (λ a. Released m way (counted v) v' a r) (ea ∙ front_full) rel in
           let out = one (omega arith) (omega arith) in
-          subst (λ x. Outcome (moved_on mach places) m way ivs us base s h t past v' x) (sym out.0)
-          (some, unit_is, subst (λ x. Standing (moved_on mach places) m way ivs us base s (h + 1) (t + 1) past x) (sym out.1) standing_left)
+          rw (out.0, out.1) (some, unit_is, standing_left)
 
     pub released : (v' : View) (answer r : Option ℕ) → answer ≡ get_or places 0 None → Released m way (counted v) v' answer r
         → Outcome (moved_on mach places) m way ivs us base s h t past v' r
