@@ -79,10 +79,6 @@ Passes mach mach' f f' (Some u) given given' ys ys' =
     → Enters mach (order_of calls).mode (way_of calls) us (units_earlier calls) s (out_in mach.depth calls + given) t u
     → Handing mach' f' calls us (s + 1) given' (t + 1) xs ys'
 
--- the same of a call that is given what is left of the list behind the units that stand in it, and writes n more there
-abbrev pub Behind : ((given given' : ℕ) (ys ys' : List ℕ) → Type 0) → (n : ℕ) (xs xs' : List ℕ) → Type 0
-Behind R n xs xs' = (ys : List ℕ) (given : ℕ) → given ≤ length ys → drop given ys ≡ xs → R given (given + n) ys (take given ys ++ xs')
-
 -- so do n cycles with none
 abbrev pub Idles : (mach mach' : Machine) (f f' : Frame) (n given given' : ℕ) (ys ys' : List ℕ) → Type 0
 Idles mach mach' f f' n given given' ys ys' =
@@ -95,6 +91,10 @@ Waits mach mach' f f' given given' ys ys' =
     (calls : Calls true) (us xs : List ℕ) (s : ℕ) → Handing mach f calls us s given (passed mach.depth (distance_in calls) s) xs ys
     → Handing (holding mach mach'.row) f' calls us s given' (entry mach.depth (distance_in calls) s) xs ys'
     × ((δ : ℕ) → distance_in calls ≡ Some δ → s - (out_in mach.depth calls + given') < δ)
+
+-- one of these, of a call that is given what is left of the output list behind the units that stand in it, and writes n more there
+abbrev pub Behind : ((given given' : ℕ) (ys ys' : List ℕ) → Type 0) → (n : ℕ) (xs xs' : List ℕ) → Type 0
+Behind R n xs xs' = (ys : List ℕ) (given : ℕ) → given ≤ length ys → drop given ys ≡ xs → R given (given + n) ys (take given ys ++ xs')
 
 -- all units of a feed, each in its cycle
 abbrev pub Pumps : (mach mach' : Machine) (f f' : Frame) (us : List ℕ) (n given : ℕ) (xs ys : List ℕ) → Type 0

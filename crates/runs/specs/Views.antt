@@ -23,7 +23,7 @@ MayTake f n = f.before + f.taken + n ≤ unit_limit
 abbrev pub HasRoom : Frame → ℕ → List ℕ → Type 0
 HasRoom f n xs = length f.pending.items + n ≤ length xs
 
--- a unit or none taken in, and what goes into the engine; the rings have room
+-- a unit or none taken in, and what goes into the engine; the queues have room
 abbrev pub Admitted : Mode → Way → View → View → Option ℕ → Option Work → Type 0
 Admitted m way v v' None work = (work ≡ None) × (v' ≡ v)
 Admitted m way v v' (Some u) work =
