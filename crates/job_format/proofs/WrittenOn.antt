@@ -27,10 +27,6 @@ part_overwritten e k xs bs l = rw (l, drop-drop (length bs) e xs) (sym (append_a
 room_for_all : (n k p room : ℕ) → p ≤ room → k ≤ (room - p) / n → p + n * k ≤ room
 room_for_all n k p room l h = omega (arith, mul-le-mul_left n h, mul-div-le (room - p) n)
 
-pub room_for_one : (n k p room i e : ℕ) → p ≤ room → k ≤ (room - p) / n → i < k → e ≡ p + n * i → e + n ≤ room
-room_for_one n k p room i e l h below here =
-    omega (arith, room_for_all n k p room l h, mul-suc n i, mul-le-mul_left n below)
-
 pub room_for_fewer : (n k p room : ℕ) → 0 < n → (room - p) / n < k → room < p + n * k
 room_for_fewer n k p room l h = omega (arith, (div-lt_iff_lt-mul l).0 h)
 

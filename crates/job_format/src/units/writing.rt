@@ -29,13 +29,6 @@ impl<'a> UnitWriter<'a> {
         UnitWriter { mode, out, end: 0 }
     }
 
-    /// The mode whose units are written.
-    pub fn mode(&self) -> Mode
-        ensures { result ≡ self.now.mode }
-    {
-        self.mode
-    }
-
     /// How many bytes were written.
     pub fn written(&self) -> usize
         ensures { result ≡ self.now.end }
