@@ -51,12 +51,12 @@ impl fmt::Display for Opening {
     fn fmt<W: fmt::Write>(&self, f: &mut fmt::Formatter<W>) -> fmt::Result {
         match self.0 {
             Ok(order) => {
-                let name = order.mode().name();
+                let mode = order.mode();
                 match order.initial_values() {
-                    InitialValues::Empty => write!(f, "{name}"),
-                    InitialValues::One(a) => write!(f, "{name} {a:016X}"),
+                    InitialValues::Empty => write!(f, "{mode}"),
+                    InitialValues::One(a) => write!(f, "{mode} {a:016X}"),
                     InitialValues::Three(a, b, c) => {
-                        write!(f, "{name} {a:016X} {b:016X} {c:016X}")
+                        write!(f, "{mode} {a:016X} {b:016X} {c:016X}")
                     }
                 }
             }
@@ -75,7 +75,7 @@ fn show_mode(rt: &impl Print, mode: Mode) -> io::Result<()> {
     println!(rt;
         "{:2} {:6} width {:2}, initial values {}, distance {} / {}, memory {}, reach {}",
         mode.code(),
-        mode.name(),
+        mode,
         mode.width(),
         mode.initial_values(),
         Figure(mode.distance(Way::Enciphering)),

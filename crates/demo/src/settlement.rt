@@ -49,7 +49,7 @@ pub fn show(rt: &(impl Print + AllocGlobal)) -> anyhow::Result<()> {
     println!(rt;
         "{} records sent in {}: {} units",
         RECORDS.len(),
-        order.mode().name(),
+        order.mode(),
         transmission.sent.len()
     )?;
     println!(rt;

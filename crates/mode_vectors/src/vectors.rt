@@ -132,7 +132,7 @@ impl Vector {
         println!(rt;
             "{} {}:{}, received again: {}",
             mode.code(),
-            mode.name(),
+            mode,
             Hexadecimal {
                 units: &sent,
                 width: mode.width()

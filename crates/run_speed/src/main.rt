@@ -55,7 +55,7 @@ fn time_code(rt: &(impl Print + Clock), code: u8) -> anyhow::Result<()> {
         least = least.min(start.elapsed(rt)?);
     }
     let tenths = least.as_nanos() / (UNITS as u128 * FEEDS as u128 / 10);
-    println!(rt; "{} {tenths}", mode.name())?;
+    println!(rt; "{mode} {tenths}")?;
     Ok(())
 }
 
