@@ -23,7 +23,7 @@ pub struct Line<A, B, C> {
 }
 
 impl<A: Cipher, B: Cipher, C: Cipher> Line<A, B, C> {
-    /// A line with all its functional blocks idle.
+    /// A line with all its functional blocks idle. The ciphers come one by one, as for the triple, since each is of a type of its own.
     pub fn new(first: A, second: B, third: C) -> Self
         ensures means { line_machine A.Cipher B.Cipher C.Cipher result ≡ resting (in_row (A.Cipher.forward first) (B.Cipher.inverse second) (C.Cipher.forward third)) (in_row (C.Cipher.inverse third) (B.Cipher.forward second) (A.Cipher.inverse first)) 3 }
         ensures idle { result.table.blocks ≡ Idle ∷ Idle ∷ Idle ∷ [] }

@@ -74,6 +74,7 @@ impl Mode {
         }
     }
 
+    // A method, since `u8::from(mode)` would not say which of the mode's numbers it gives.
     /// The code that names the mode. Each mode has its own.
     pub fn code(self) -> u8
         ensures value { result ≡ (row self).code }

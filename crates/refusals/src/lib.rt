@@ -42,6 +42,7 @@ pub enum Refusal {
     PartialUnit(usize),
 }
 
+// Methods, since a refusal has two numbers and a conversion would not say which it gives.
 impl Refusal {
     /// The number that names the reason.
     pub fn number(self) -> u8

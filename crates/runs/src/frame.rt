@@ -1,4 +1,5 @@
 //! What a run remembers besides its engine.
+mod course;
 pub(crate) mod steps;
 
 ghost use Rattle.std.specs.Prelude.{◌+◌, ◌≤◌};

@@ -1,67 +1,14 @@
 //! One unit's way into the engine and out of it.
 ghost use Rattle.std.specs.Prelude.{◌≡◌, ◌+◌, ◌<◌, ◌≤◌, length, Some};
 ghost use Rattle.engines.specs.Depths.{the_greatest_depth};
-ghost use Rattle.runs.specs.Steps.{input_by, mask_by, direction_by, register_by, fed_back_by, link_of, shift_from, pushed, counted, one_if};
+ghost use Rattle.modes.specs.Table.{row};
+ghost use Rattle.runs.specs.Steps.{link_of, shift_from, pushed, counted, one_if};
 ghost use Rattle.runs.specs.Views.{view, Kept, MayTake, Admitted, Released};
 
+use super::course::Course;
 use super::{Frame, Queue};
 use cipher::Block;
-use engines::work::{Direction, Work};
-use modes::family::Family;
-use modes::way::Way;
-
-/// What goes into the engine for a unit, where the chain has `link` for it.
-fn input_for(family: Family, way: Way, unit: u64, link: u64, register: Block) -> Block
-    ensures { result ≡ input_by family way unit link register }
-{
-    match (family, way) {
-        (Family::Chaining, Way::Enciphering) => unit ^ link,
-        (Family::CipherFeedback, _) => register,
-        (Family::OutputFeedback, _) => link,
-        _ => unit,
-    }
-}
-
-/// What the result is joined with as it comes out.
-fn mask_for(family: Family, way: Way, unit: u64, link: u64) -> u64
-    ensures { result ≡ mask_by family way unit link }
-{
-    match (family, way) {
-        (Family::Chaining, Way::Deciphering) => link,
-        (Family::CipherFeedback, _) | (Family::OutputFeedback, _) => unit,
-        _ => 0,
-    }
-}
-
-fn direction_for(family: Family, way: Way) -> Direction
-    ensures { result ≡ direction_by family way }
-{
-    match (family, way) {
-        (Family::Codebook, Way::Deciphering) | (Family::Chaining, Way::Deciphering) =>
-            Direction::Inverse,
-        _ => Direction::Forward,
-    }
-}
-
-/// Only cipher feedback keeps a register.
-fn register_after(family: Family, old: Block, new: Block) -> Block
-    ensures { result ≡ register_by family old new }
-{
-    match family {
-        Family::CipherFeedback => new,
-        _ => old,
-    }
-}
-
-/// What goes back into the chain as a result comes out.
-fn fed_back(family: Family, block: Block, unit: u64) -> u64
-    ensures { result ≡ fed_back_by family block unit }
-{
-    match family {
-        Family::OutputFeedback => block,
-        _ => unit,
-    }
-}
+use engines::work::Work;
 
 // Takes the oldest number out of the chain, and puts one in at its end. A chain of none stays so.
 fn pass(chain: &mut Queue, number: u64)
@@ -72,7 +19,17 @@ fn pass(chain: &mut Queue, number: u64)
     }
 }
 
+// That a call keeps the mode, the way and the first count is said by each: it ties two frames, and no value holds both.
 impl Frame {
+    fn course(&self) -> Course
+        ensures { result ≡ record { family = (row self.now.mode).family; way = self.now.way } }
+    {
+        Course {
+            family: self.mode.family(),
+            way: self.way,
+        }
+    }
+
     /// What the chain has for the next unit.
     fn link(&self) -> u64
         ensures { result ≡ link_of self.now.mode self.now.way (view self.now) }
@@ -102,19 +59,18 @@ impl Frame {
         ensures count { self.new.taken ≡ self.old.taken + one_if unit }
     {
         let unit = unit?;
-        let family = self.mode.family();
-        let way = self.way;
+        let course = self.course();
         let link = self.link();
         let register = self.shifted(link);
-        let _ = self.pending.try_push(mask_for(family, way, unit, link));
-        if self.mode.distance(way).is_none() {
+        let _ = self.pending.try_push(course.mask(unit, link));
+        if self.mode.distance(self.way).is_none() {
             pass(&mut self.chain, unit);
         }
-        self.register = register_after(family, self.register, register);
+        self.register = course.register_after(self.register, register);
         self.taken += 1;
         Some(Work {
-            block: input_for(family, way, unit, link, register),
-            direction: direction_for(family, way),
+            block: course.input(unit, link, register),
+            direction: course.direction(),
         })
     }
 
@@ -129,7 +85,8 @@ impl Frame {
         let mask = self.pending.pop_at(0)?;
         let unit = self.mode.leftmost(block) ^ mask;
         if self.mode.distance(self.way).is_some() {
-            pass(&mut self.chain, fed_back(self.mode.family(), block, unit));
+            let link = self.course().fed_back(block, unit);
+            pass(&mut self.chain, link);
         }
         Some(unit)
     }
