@@ -17,6 +17,7 @@ ghost use Rattle.cipher.specs.Combined.{combined};
 #[derive(Drop)]
 pub struct Dea {
     round_keys: [u64; 16],
+    // one list of 512, as its definition has it: eight arrays of 64 would be flattened in every clause
     substitution: [u32; 512],
     ghost substitutes: { substitution ≡ combined },
 }

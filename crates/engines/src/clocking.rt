@@ -14,8 +14,8 @@ pub fn clock_each<E: Engine>(engine: &mut E, inputs: &[Option<Work>], answers: &
 {
     for (cycle, input) in inputs.iter().enumerate() {
         let answer = engine.clock(*input);
-        // By index: once the loan of get_mut, or of an iterator over the answers, is over, std says nothing of what stands
-        // in the list, and both were tried.
+        // By index: after the loan of `get_mut`, or of an iterator that is asked for one place after the other, std says nothing of the
+        // list. Both were tried, and the proof did not close.
         if cycle < answers.len() {
             answers[cycle] = answer;
         }

@@ -10,7 +10,8 @@ use cipher::Block;
 /// No engine is deeper.
 pub const GREATEST_DEPTH: usize = 8;
 
-/// The same, as proofs know it. A constant has no contract that could say so, so a function stands beside it.
+// A constant has no contract, so a function stands beside it.
+/// `GREATEST_DEPTH`, as proofs know it.
 pub fn greatest_depth() -> usize
     ensures { result ≡ the_greatest_depth }
 {

@@ -23,7 +23,8 @@ pub struct Line<A, B, C> {
 }
 
 impl<A: Cipher, B: Cipher, C: Cipher> Line<A, B, C> {
-    /// A line with all its functional blocks idle. The ciphers come one by one, as for the triple, since each is of a type of its own.
+    // Three ciphers, and not the triple of them: its parts are private to its crate, and the table works them one by one.
+    /// A line with all its functional blocks idle.
     pub fn new(first: A, second: B, third: C) -> Self
         ensures means { line_machine A.Cipher B.Cipher C.Cipher result ≡ resting (in_row (A.Cipher.forward first) (B.Cipher.inverse second) (C.Cipher.forward third)) (in_row (C.Cipher.inverse third) (B.Cipher.forward second) (A.Cipher.inverse first)) 3 }
         ensures idle { result.table.blocks ≡ Idle ∷ Idle ∷ Idle ∷ [] }
@@ -44,8 +45,7 @@ impl<A: Cipher, B: Cipher, C: Cipher> Line<A, B, C> {
     }
 
     // The work of a functional block. The inverse goes through the ciphers the other way round.
-    // A table of functions would be no plainer: the ciphers are of three types, so that each entry would be a boxed closure, and
-    // there is no heap.
+    // A match, and no table of functions: the ciphers are of three types, and the six arms stand line by line as in the specification.
     fn worked(&self, stage: Stage, work: Work) -> Block
         ensures { result ≡ stage_function A.Cipher B.Cipher C.Cipher self.now stage work.direction work.block }
     {

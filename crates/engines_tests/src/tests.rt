@@ -38,8 +38,8 @@ fn plain_engine_answers_in_the_same_cycle(rt: HostRuntime) {
 
 #[test]
 fn line_is_emptied_in_two_cycles(rt: HostRuntime) {
-    let triple = Triple::new(Rotated {}, ADDED, CROSSED);
-    let mut engine = Counted::new(Line::new(Rotated {}, ADDED, CROSSED));
+    let triple = Triple::new(Rotated, ADDED, CROSSED);
+    let mut engine = Counted::new(Line::new(Rotated, ADDED, CROSSED));
     assert_eq!(rt; engine.clock(given(Forward, 7)), None);
     assert_eq!(rt; engine.clock(given(Inverse, 9)), None);
     let mut answers = [Some(5); 3];
@@ -52,7 +52,7 @@ fn line_is_emptied_in_two_cycles(rt: HostRuntime) {
 
 #[test]
 fn what_finds_no_place_is_lost(rt: HostRuntime) {
-    let mut engine = Line::new(Rotated {}, ADDED, CROSSED);
+    let mut engine = Line::new(Rotated, ADDED, CROSSED);
     assert_eq!(rt; engine.clock(given(Forward, 7)), None);
     let mut answers = [Some(5)];
     flush(&mut engine, &mut answers);
@@ -62,7 +62,7 @@ fn what_finds_no_place_is_lost(rt: HostRuntime) {
 
 #[test]
 fn line_tells_what_stands_in_its_functional_blocks(rt: HostRuntime) {
-    let mut line = Line::new(Rotated {}, ADDED, CROSSED);
+    let mut line = Line::new(Rotated, ADDED, CROSSED);
     assert_eq!(rt; line.clock(given(Forward, 7)), None);
     let worked = Work {
         block: 0x0700,

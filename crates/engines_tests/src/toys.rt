@@ -9,7 +9,7 @@ use cipher::{Block, Cipher};
 
 /// Turns the block by one byte to the left.
 #[derive(Clone, Copy)]
-pub struct Rotated {}
+pub struct Rotated;
 
 /// Adds a number, and drops the carry.
 #[derive(Clone, Copy)]

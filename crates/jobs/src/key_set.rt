@@ -26,7 +26,8 @@ impl KeySet {
 }
 
 /// Copies the key field into the duplicate and loads it from there. The duplicate is zero afterwards, loaded or refused.
-// It asks the length again: a function for each length of the duplicate, or a trait over the two kinds of key, is no plainer.
+// The duplicate is a parameter, so that a contract says that it is zero then. Its length is asked again, since a function for each length
+// would say the same twice.
 fn load_from(field: &[u8], duplicate: &mut [u8]) -> Result<KeySet, Refusal>
     requires { length duplicate.old ≡ length field.now }
     ensures value { words_in result ≡ keys_loaded field.now }

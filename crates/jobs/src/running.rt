@@ -69,6 +69,7 @@ fn run_on<E: Engine + Drop>(
 {
     let cartridge = Cartridge::new(engine);
     let order = passage.order;
+    // two arms, since the type of a run says which way it goes
     match passage.way {
         Way::Enciphering => carry_out(cartridge.start(order, Sending), passage, out),
         Way::Deciphering => carry_out(cartridge.start(order, Receiving), passage, out),

@@ -17,7 +17,7 @@ use modes::order::Order;
 use modes::way::Way;
 use refusals::Refusal;
 
-/// Loaded keys, and what the run over them does.
+/// Loaded keys, and what goes through the run over them.
 #[derive(Drop)]
 pub(crate) struct Task<'a> {
     pub(crate) keys: KeySet,
@@ -54,7 +54,8 @@ fn only_byte(tag: Tag, field: &[u8]) -> Result<u8, Refusal>
 }
 
 /// The way that a direction names.
-// No `TryFrom`: the way belongs to the crate `modes`, which knows nothing of a job's numbers, and an impl here would be of a foreign type.
+// No `TryFrom`: the way belongs to the crate `modes`, which knows nothing of a job's numbers, and an impl here would be of a foreign trait
+// for a foreign type.
 fn way_named(direction: u8) -> Result<Way, Refusal>
     ensures { result ≡ way_of_direction direction }
 {

@@ -1,4 +1,5 @@
 //! Ciphers from loaded keys. A key is used up by it, and nothing is refused.
+// Methods, and no `From`: a bundle becomes one cipher or three.
 ghost use Rattle.std.specs.Prelude.{◌≡◌};
 ghost use Rattle.cipher.specs.Dea.{dea as dea_of, dea_inverse, triple_dea, triple_dea_inverse};
 ghost use Rattle.cipher.specs.Functions.{forward_of, inverse_of, triple_forward_of, triple_inverse_of};

@@ -10,7 +10,8 @@ use crate::{KeyBundle, SingleKey};
 use cipher::bytes::block_at;
 use refusals::Refusal;
 
-// The two loads differ in what reads the bytes; a generic function over that has more lines of clauses than it saves.
+// The two loads differ in what reads the bytes; a generic function over that has more lines of clauses than it saves. Each says that
+// the lent bytes are zero then, since no type can say it of bytes that the caller keeps.
 impl SingleKey {
     /// Loads one key from its eight bytes.
     pub fn load(key: &mut [u8]) -> Result<SingleKey, Refusal>
@@ -40,7 +41,10 @@ fn check(bytes: &[u8], wanted: usize) -> Result<(), Refusal>
     if bytes.len() != wanted {
         return Err(Refusal::KeyLength(bytes.len()));
     }
-    first_even_byte(bytes).map_or(Ok(()), |index| Err(Refusal::KeyParity(index)))
+    if let Some(index) = first_even_byte(bytes) {
+        return Err(Refusal::KeyParity(index));
+    }
+    Ok(())
 }
 
 /// The key whose eight bytes stand from `at` on.

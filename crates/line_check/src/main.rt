@@ -18,8 +18,8 @@ fn main(rt: HostRuntime) -> io::Result<()> {
     let crossed = Crossed {
         mask: 0xFEDC_BA98_7654_3210,
     };
-    let mut line = Line::new(Rotated {}, added, crossed);
-    let mut triple = Plain::new(Triple::new(Rotated {}, added, crossed));
+    let mut line = Line::new(Rotated, added, crossed);
+    let mut triple = Plain::new(Triple::new(Rotated, added, crossed));
     let tally = compared(&mut line, &mut triple, Numbers::new(1), 1000);
     println!(rt; "{tally}")
 }

@@ -36,6 +36,7 @@ impl TryFrom<u8> for Mode {
 
     ghost try_from_gives = { λ code answer. answer ≡ mode_of_code code };
 
+    // The codes stand here and in the table of the rows: a search for the code there would be no plainer than a line for each.
     /// The mode that a code names.
     fn try_from(code: u8) -> Result<Self, Refusal> {
         match code {

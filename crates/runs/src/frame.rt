@@ -11,7 +11,7 @@ use engines::engine::GREATEST_DEPTH;
 use modes::mode::Mode;
 use modes::way::Way;
 
-/// As many numbers as the deepest engine has cycles, the oldest first.
+/// At most as many numbers as the deepest engine has cycles, the oldest first.
 pub(crate) type Queue = ArrayVec<u64, GREATEST_DEPTH>;
 
 /// Pending: what the result of each unit inside the engine is joined with as it comes out. Chain: the ciphered units or output

@@ -12,6 +12,7 @@ use engines::plain::Plain;
 use engines::work::Work;
 use modes::mode::Mode;
 use modes::order::Order;
+use refusals::Refusal;
 
 // The crate engines_tests has the like of this engine and of `next` below, but by a rule of the project no crate of the product rests
 // on one of tests, and no call gives a cartridge's engine out.
@@ -79,20 +80,17 @@ fn run_through<E: Engine, W: Heading + Drop>(
     (run.close(), cycles)
 }
 
-/// Runs in the modes in turn on one cartridge, some enciphering and some deciphering. Answers how often the engine was clocked, and how often it should have been.
-fn clocks_and_cycles<E: Engine + Drop>(engine: E, idle: u64) -> (u64, u64) {
+/// Runs in the modes in turn on one cartridge, some enciphering and some deciphering. Answers how often the engine was clocked, and how
+/// often it should have been.
+fn clocks_and_cycles<E: Engine + Drop>(engine: E, idle: u64) -> Result<(u64, u64), Refusal> {
     let mut cartridge = Cartridge::new(Counting {
         inner: engine,
         clocks: 0,
     });
     let mut due: u64 = 0;
     for (round, code) in (0..220u64).zip((1..=11u8).cycle()) {
-        let Ok(mode) = Mode::try_from(code) else {
-            continue;
-        };
-        let Ok(order) = Order::check(code, &[0x5A; 24][0..8 * mode.initial_values()]) else {
-            continue;
-        };
+        let mode = Mode::try_from(code)?;
+        let order = Order::check(code, &[0x5A; 24][0..8 * mode.initial_values()])?;
         let (back, cycles) = if next(round) >> 63 == 0 {
             run_through(cartridge, order, Sending, round)
         } else {
@@ -101,16 +99,19 @@ fn clocks_and_cycles<E: Engine + Drop>(engine: E, idle: u64) -> (u64, u64) {
         cartridge = back;
         due = due.saturating_add(idle).saturating_add(cycles);
     }
-    (cartridge.engine.clocks, due)
+    Ok((cartridge.engine.clocks, due))
 }
 
 #[test]
-fn an_engine_is_clocked_for_the_cycles_told_and_for_each_start(rt: HostRuntime) {
-    let (clocks, due) = clocks_and_cycles(Plain::new(Dea::new(0x0123_4567_89AB_CDEF)), 0);
+fn an_engine_is_clocked_for_the_cycles_told_and_for_each_start(
+    rt: HostRuntime,
+) -> Result<(), Refusal> {
+    let (clocks, due) = clocks_and_cycles(Plain::new(Dea::new(0x0123_4567_89AB_CDEF)), 0)?;
     assert_eq!(rt; clocks, due);
     assert!(rt; clocks > 1000);
     let line = Line::new(Dea::new(1), Dea::new(2), Dea::new(3));
-    let (clocks, due) = clocks_and_cycles(line, 2);
+    let (clocks, due) = clocks_and_cycles(line, 2)?;
     assert_eq!(rt; clocks, due);
     assert!(rt; clocks > 1000);
+    Ok(())
 }

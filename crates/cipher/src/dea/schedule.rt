@@ -22,6 +22,7 @@ impl Model for Half {
     ghost inverse = { λ value. record { 0 = value } };
 }
 
+// How far to rotate is read from a table of bytes, so that each step asks that it is at most two places: a type for it would be no plainer.
 impl Half {
     fn rotate(self, places: u32) -> Half
         requires { places ≤ 2 }

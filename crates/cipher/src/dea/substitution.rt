@@ -33,7 +33,6 @@ fn permuted_answers() -> [u32; 128]
     array::from_fn(|n| permute_answer(n / 16, n % 16))
 }
 
-// An array of eight boxes was tried, [[u32; 64]; 8]: building a cipher takes 8 percent longer.
 pub(super) fn combine() -> [u32; 512]
     ensures { result ≡ combined }
 {

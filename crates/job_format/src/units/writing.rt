@@ -9,6 +9,7 @@ use super::unit_size;
 use modes::mode::Mode;
 use refusals::Refusal;
 
+// The caller's bytes with an offset, and no vector: the library has no heap.
 /// Bytes that take units, from the first byte on, and the offset behind those that were written.
 #[derive(Drop)]
 pub struct UnitWriter<'a> {

@@ -9,6 +9,7 @@ use super::Order;
 use refusals::Refusal;
 
 impl Order {
+    // A code and no mode: by a rule of the project an opening is a code and bytes, and the refusal of the code comes first.
     /// The order for a code and the bytes of the initial values. Refused: a code that names no mode, then a length of the bytes
     /// other than the mode's.
     pub fn check(code: u8, initial_values: &[u8]) -> Result<Order, Refusal>

@@ -15,7 +15,8 @@ use engines::engine::Engine;
 use modes::order::Order;
 use modes::values::InitialValues;
 
-// The chain with which a run begins. Pushes, since `try_extend_from_slice` may fail, and to handle that is no plainer.
+// The chain with which a run begins. It is pushed to, since `try_extend_from_slice` answers an error, which cannot come here, and a word
+// about it would be longer.
 fn first_links(values: InitialValues) -> Queue
     ensures { result.items ≡ listed values }
 {

@@ -7,8 +7,9 @@ use engines::work::Direction;
 use modes::family::Family;
 use modes::way::Way;
 
-/// A family of modes, and the way through it. Matches on the family, and no trait with an impl for each: a code names a mode as the
-/// program runs, and the matches stand line by line as the specification has them.
+// The family is matched on, and is no trait with an impl for each: a code names a mode as the program runs, and the matches stand line by
+// line as in the specification.
+/// A family of modes, and the way through it.
 #[derive(Clone, Copy)]
 pub(super) struct Course {
     pub(super) family: Family,

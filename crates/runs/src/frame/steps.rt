@@ -10,7 +10,7 @@ use super::{Frame, Queue};
 use cipher::Block;
 use engines::work::Work;
 
-// Takes the oldest number out of the chain, and puts one in at its end. A chain of none stays so.
+// Takes the oldest number out of the chain, and puts one in at its end, where there is room then. A chain of none stays so.
 fn pass(chain: &mut Queue, number: u64)
     ensures { length chain.old.items < the_greatest_depth → chain.new.items ≡ pushed chain.old.items number }
 {
@@ -19,7 +19,7 @@ fn pass(chain: &mut Queue, number: u64)
     }
 }
 
-// That a call keeps the mode, the way and the first count is said by each: it ties two frames, and no value holds both.
+// Each call says that it keeps the mode, the way and the first count, since that ties two frames, and no value holds both.
 impl Frame {
     fn course(&self) -> Course
         ensures { result ≡ record { family = (row self.now.mode).family; way = self.now.way } }
@@ -34,8 +34,11 @@ impl Frame {
     fn link(&self) -> u64
         ensures { result ≡ link_of self.now.mode self.now.way (view self.now) }
     {
-        let distance = self.mode.distance(self.way);
-        let place = distance.map_or(0, |_| self.pending.len());
+        let place = if self.mode.distance(self.way).is_some() {
+            self.pending.len()
+        } else {
+            0
+        };
         self.chain.get(place).copied().unwrap_or(0)
     }
 
@@ -62,6 +65,7 @@ impl Frame {
         let course = self.course();
         let link = self.link();
         let register = self.shifted(link);
+        // there is room: an engine holds fewer blocks than it is deep
         let _ = self.pending.try_push(course.mask(unit, link));
         if self.mode.distance(self.way).is_none() {
             pass(&mut self.chain, unit);

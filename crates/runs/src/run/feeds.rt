@@ -12,6 +12,8 @@ use engines::engine::Engine;
 use modes::mode::Mode;
 use refusals::Refusal;
 
+// A job's bytes are searched so too. One function for both would be generic over iterators and ask its callers that they end, and by a
+// rule of the project no public function asks anything.
 /// The index of the first unit that is too wide for the mode.
 fn first_too_wide(mode: Mode, units: &[u64]) -> Option<usize>
     ensures { result ≡ first_wide (row mode).width 0 units.now }
