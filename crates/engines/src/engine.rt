@@ -24,7 +24,7 @@ pub trait Engine: Sized {
     /// In how many cycles a block passes through, the one that it enters in included.
     const DEPTH: usize;
 
-    // The constant as clauses see it.
+    // The constant as clauses name it.
     ghost DEPTH: { ℕ };
 
     ghost machine: { Self → Machine };

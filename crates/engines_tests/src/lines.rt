@@ -7,6 +7,7 @@ ghost use Rattle.engines.specs.Machines.{resting};
 use cipher::Cipher;
 use engines::line::Line;
 
+// By a rule of the project an edit swaps the ciphers, and only where all three are of one kind does a type allow that.
 /// A new line. The ciphers are told in the order of the forward direction.
 pub fn line_of<C: Cipher>(first: C, second: C, third: C) -> Line<C, C, C>
     ensures { line_machine C.Cipher C.Cipher C.Cipher result ≡ resting (in_row (C.Cipher.forward first) (C.Cipher.inverse second) (C.Cipher.forward third)) (in_row (C.Cipher.inverse third) (C.Cipher.forward second) (C.Cipher.inverse first)) 3 }

@@ -10,6 +10,7 @@ use jobs::DATA_LIMIT;
 use jobs::running::run_job;
 use std::alloc::{AllocError, Global};
 
+// By a rule of the project the theorem stands on the contract of this call.
 /// The text that tells what became of a job: units, cycles and results, or why it is refused; an error only for want of memory. Its
 /// contract also carries the theorem over all lists of calls, that a job is one run, and that a job that goes back restores the data.
 #[tactic(auto, using(calls::proofs::Whole::theorem, jobs::proofs::AsRuns::jobs_are_runs))]

@@ -12,8 +12,8 @@ use job_format::units::writing::UnitWriter;
 use refusals::Refusal;
 use runs::run::Run;
 
-// Each call says that the engine keeps its functions and depth, and the writer its list and mode, since that ties two values, and no value
-// holds both.
+// Each call says that the engine keeps its functions and depth, and the writer its list and mode, since that concerns two values, and no
+// value holds both.
 
 /// Feeds one unit, and writes what comes out. An engine holds fewer units than it is deep, so there is room for all that can come out; and
 /// there is room to write it, as the data was checked.

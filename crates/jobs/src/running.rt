@@ -19,6 +19,7 @@ use refusals::Refusal;
 use runs::cartridge::Cartridge;
 use runs::run::heading::{Receiving, Sending};
 
+// By a rule of the project the theorem stands on the contract of this call.
 /// Runs a job: its units are fed in order to one run on a new cartridge, which is drained once, at the end. Writes as many
 /// bytes as the data has, first in the output, and leaves its rest; where it is refused it leaves all of it.
 #[tactic(auto, using(calls::proofs::Whole::theorem, crate::proofs::AsRuns::jobs_are_runs))]

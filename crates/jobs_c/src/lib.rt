@@ -6,7 +6,7 @@ ghost use Rattle.jobs.specs.Meaning.{meaning, reported, output_after, signed};
 
 use jobs::export;
 
-// One signed number, as the function that it calls, since programs in C read it.
+// The function of `jobs` again: a linker finds only an exported name. It answers one signed number, since programs in C read it.
 /// Runs a job. Answers how many bytes it wrote to the output, or minus the number of the refusal.
 #[unsafe(no_mangle)]
 pub extern "C" fn tdea_run(job: &[u8], out: &mut [u8]) -> i64

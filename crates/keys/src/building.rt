@@ -1,5 +1,4 @@
 //! Ciphers from loaded keys. A key is used up by it, and nothing is refused.
-// Methods, and no `From`: a bundle becomes one cipher or three.
 ghost use Rattle.std.specs.Prelude.{◌≡◌};
 ghost use Rattle.cipher.specs.Dea.{dea as dea_of, dea_inverse, triple_dea, triple_dea_inverse};
 ghost use Rattle.cipher.specs.Functions.{forward_of, inverse_of, triple_forward_of, triple_inverse_of};
@@ -8,6 +7,7 @@ use crate::{KeyBundle, SingleKey};
 use cipher::dea::Dea;
 use cipher::triple::Triple;
 
+// Methods, and no `From`: a bundle becomes one cipher or three, and a single key's is named as the bundle's.
 impl SingleKey {
     /// Single DEA under this key.
     pub fn into_cipher(self) -> Dea

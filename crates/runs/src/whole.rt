@@ -13,6 +13,7 @@ use engines::engine::Engine;
 use modes::order::Order;
 use refusals::Refusal;
 
+// That the engine keeps its functions and depth concerns two values, and no value holds both.
 /// Feeds units and drains what is inside after them. Says how many units it handed out, first in the list.
 fn feed_and_drain<E: Engine, W>(
     run: &mut Run<E, W>,

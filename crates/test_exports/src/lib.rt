@@ -19,7 +19,8 @@ fn replace_each<F: Fn(Block) -> Block>(blocks: &mut [Block], made_of: F)
     }
 }
 
-// Numbers for the direction and for the refusal, since C calls this.
+// Numbers for the direction and for the refusal, since C calls this. That the key bytes are zero then concerns the caller's bytes, which no
+// type holds.
 /// Turns every block under the bundle: forward where `inverse` is 0, else inverse. Answers 0, or the number of the refusal, and then leaves the blocks.
 #[unsafe(no_mangle)]
 pub extern "C" fn hervodig_blocks(keys: &mut [u8], inverse: u8, blocks: &mut [Block]) -> u8

@@ -36,7 +36,7 @@ fn call(first: &Dea, second: &Dea, third: &Dea, times: u64) -> Block
 }
 
 // The two calls below share their outer lines. One function that is given what to do with the ciphers would be no plainer: its
-// clause would be longer than those lines.
+// clause would be longer than those lines. That the key bytes are zero then concerns the caller's bytes, which no type holds.
 /// Clocks a line under the bundle so often, and answers what came out, gathered by exclusive or; 0 where the bundle is refused.
 #[unsafe(no_mangle)]
 pub extern "C" fn hervodig_line(keys: &mut [u8], cycles: u64) -> Block

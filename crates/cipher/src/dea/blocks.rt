@@ -37,7 +37,7 @@ impl Cipher for Dea {
         leave(keys.fold(enter(block), |halves, key| self.round(*key, halves)))
     }
 
-    // The same but for the order: one function over any iterator of keys would have to ask that it ends.
+    // The same but for the order: one function over any iterator of keys would have to ask that it ends, which is no plainer.
     fn inverse(&self, block: Block) -> Block {
         let keys = self.round_keys.iter().rev();
         leave(keys.fold(enter(block), |halves, key| self.round(*key, halves)))

@@ -20,7 +20,7 @@ fn permute(block: u64) -> u64
     exchanges.fold(block, |x, (distance, mask)| exchange(x, *distance, *mask))
 }
 
-// The same but for the order: one function over any iterator of exchanges would have to ask that it ends.
+// The same but for the order: one function over any iterator of exchanges would have to ask that it ends, which is no plainer.
 fn permute_back(block: u64) -> u64
     ensures { result ≡ ip_inverse block }
 {

@@ -44,6 +44,8 @@ impl Iterator for UnitReader<'_> {
     }
 }
 
+// A run's feed searches its list so too. One function over both iterators would have to ask that they end, and by a rule of the project no
+// public function asks anything.
 /// The index of the first of the units in some bytes that is too wide for the mode.
 pub fn first_too_wide(mode: Mode, bytes: &[u8]) -> Option<usize>
     ensures { result ≡ first_wide (row mode).width 0 (units_in (row mode).width bytes.now) }

@@ -19,7 +19,8 @@ fn pass(chain: &mut Queue, number: u64)
     }
 }
 
-// Each call says that it keeps the mode, the way and the first count, since that ties two frames, and no value holds both.
+// Each call says that it keeps the mode, the way and the first count, since that concerns two frames, and no value holds both.
+// What one may take depends on the unit too, so that no type holds it.
 impl Frame {
     fn course(&self) -> Course
         ensures { result ≡ record { family = (row self.now.mode).family; way = self.now.way } }

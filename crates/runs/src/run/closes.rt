@@ -8,6 +8,7 @@ use super::Run;
 use engines::engine::Engine;
 
 impl<E: Engine, W: Drop> Run<E, W> {
+    // By a rule of the project the theorem stands on the contract of this call.
     /// Gives the cartridge back. Units still in the engine are lost.
     pub fn close(self) -> Cartridge<E>
         ensures closed { Closed (E.Engine.machine self.engine) (E.Engine.machine result.engine) self.frame result.count }

@@ -22,6 +22,7 @@ fn first_too_wide(mode: Mode, units: &[u64]) -> Option<usize>
 }
 
 impl<E: Engine, W> Run<E, W> {
+    // What was written is added up, since there is no heap for a list. Room and limit depend on the units too, so that no type holds them.
     /// Each unit enters in its cycle, and what comes out is written.
     fn pump(&mut self, units: &[u64], out: &mut [u64]) -> usize
         requires room { HasRoom self.old.frame (length units.now) out.old }

@@ -8,6 +8,7 @@ use super::Run;
 use engines::engine::Engine;
 
 impl<E: Engine, W> Run<E, W> {
+    // What it may take depends on the unit too, and what is kept concerns two frames and two engines: no type holds either.
     /// One cycle: a unit or none goes in, a unit or none comes out.
     pub(crate) fn cycle(&mut self, unit: Option<u64>) -> Option<u64>
         requires { MayTake self.old.frame (one_if unit) }

@@ -25,7 +25,7 @@ fn put(out: &mut [u64], unit: Option<u64>) -> usize
 }
 
 // Each of these is given what is left of the caller's output list, since there is no heap for one of its own, and says how many units it
-// wrote there. What it may take and has room for speaks of an argument too, so that no type can hold it.
+// wrote there. What it may take and has room for depends on an argument too, so that no type can hold it.
 impl<E: Engine, W> Run<E, W> {
     /// One cycle, with a unit or none, and what comes out.
     pub(crate) fn pass(&mut self, unit: Option<u64>, out: &mut [u64]) -> usize
