@@ -28,7 +28,7 @@ pub fn flush<E: Engine>(engine: &mut E, answers: &mut [Option<Block>])
     ensures after { E.Engine.machine engine.new ≡ emptied (E.Engine.machine engine.old) }
 {
     let nothing = [None; GREATEST_DEPTH];
-    let places = &nothing[..E::DEPTH - 1];
+    let places = &nothing[..engine.depth_of() - 1];
     clock_each(engine, places, answers);
 }
 

@@ -1,5 +1,5 @@
 //! What an engine means. Whatever shows this is an engine, and nothing more is known of one.
-ghost use Rattle.std.specs.Prelude.{◌≡◌, ℕ, ◌+◌, ◌≤◌, length};
+ghost use Rattle.std.specs.Prelude.{◌≡◌, ◌+◌, ◌≤◌, length};
 ghost use Rattle.cipher.specs.Undoing.{Undo};
 ghost use Rattle.engines.specs.Machines.{Machine, answered, turned};
 ghost use Rattle.engines.specs.Depths.{the_greatest_depth};
@@ -24,10 +24,12 @@ pub trait Engine: Sized {
     /// In how many cycles a block passes through, the one that it enters in included.
     const DEPTH: usize;
 
-    // The constant as clauses name it.
-    ghost DEPTH: { ℕ };
-
     ghost machine: { Self → Machine };
+
+    // The constant cannot carry the meaning: a law that ties the two would ask of every engine that its depth be one for its type.
+    /// The depth, tied to the meaning. Code over any engine asks here.
+    fn depth_of(&self) -> usize
+        ensures { result ≡ (machine self.now).depth };
 
     /// One cycle: takes nothing or one block with its direction, and answers what stands at the front.
     fn clock(&mut self, input: Option<Work>) -> Option<Block>
@@ -35,8 +37,6 @@ pub trait Engine: Sized {
         ensures after { machine self.new ≡ turned (machine self.old) input };
 
     ghost undo: { (e : Self) → Undo (machine e).forward (machine e).inverse };
-
-    ghost deep: { (e : Self) → (machine e).depth ≡ DEPTH };
 
     ghost places: { (e : Self) → length (machine e).row + 1 ≡ (machine e).depth };
 

@@ -8,6 +8,9 @@ use super::engine::Engine;
 use super::work::{Direction, Work};
 use cipher::{Block, Cipher};
 
+// A proof reads this name, and not the trait's constant.
+const PLAIN_DEPTH: usize = 1;
+
 /// An engine of depth 1 over any cipher.
 #[derive(Drop)]
 pub struct Plain<C> {
@@ -23,19 +26,19 @@ impl<C: Cipher> Plain<C> {
 }
 
 impl<C: Cipher> Engine for Plain<C> {
-    const DEPTH: usize = 1;
-
-    ghost DEPTH = { 1 };
+    const DEPTH: usize = PLAIN_DEPTH;
 
     ghost machine = { plain_machine C.Cipher };
 
     ghost undo = { Prim.search rules };
 
-    ghost deep = { Prim.search rules };
-
     ghost places = { Prim.search rules };
 
     ghost shallow = { Prim.search rules };
+
+    fn depth_of(&self) -> usize {
+        PLAIN_DEPTH
+    }
 
     fn clock(&mut self, input: Option<Work>) -> Option<Block> {
         let work = input?;

@@ -1,3 +1,4 @@
 pub mod Toys
 pub mod Draws
 pub mod Crossing
+pub mod Chosen

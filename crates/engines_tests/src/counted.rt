@@ -32,17 +32,17 @@ impl<E> Counted<E> {
 impl<E: Engine> Engine for Counted<E> {
     const DEPTH: usize = E::DEPTH;
 
-    ghost DEPTH = { E.DEPTH };
-
     ghost machine = { λ e. E.Engine.machine e.inner };
 
     ghost undo = { Prim.search rules };
 
-    ghost deep = { Prim.search rules };
-
     ghost places = { Prim.search rules };
 
     ghost shallow = { Prim.search rules };
+
+    fn depth_of(&self) -> usize {
+        self.inner.depth_of()
+    }
 
     fn clock(&mut self, input: Option<Work>) -> Option<Block>
         ensures answer { result ≡ answered (E.Engine.machine self.old.inner) input }

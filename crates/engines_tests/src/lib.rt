@@ -2,6 +2,7 @@
 //! numbers that look random.
 #![tactic(auto)]
 
+pub mod chosen;
 pub mod counted;
 pub mod lines;
 pub mod numbers;

@@ -1,3 +1,4 @@
+use crate::chosen::Chosen;
 use crate::counted::Counted;
 use crate::toys::{Added, Crossed, Rotated};
 use cipher::triple::Triple;
@@ -70,4 +71,22 @@ fn line_tells_what_stands_in_its_functional_blocks(rt: HostRuntime) {
     };
     assert_eq!(rt; line.state(Stage::First), BlockState::Holding(worked));
     assert_eq!(rt; line.state(Stage::Second), BlockState::Idle);
+}
+
+#[test]
+fn chosen_engine_is_emptied_at_the_depth_of_the_one_that_it_is(rt: HostRuntime) {
+    type Either = Chosen<Plain<Added>, Line<Rotated, Added, Crossed>>;
+    let mut plain: Either = Chosen::One(Plain::new(ADDED));
+    let mut line: Either = Chosen::Other(Line::new(Rotated, ADDED, CROSSED));
+    assert_eq!(rt; (plain.depth_of(), line.depth_of()), (1, 3));
+    assert_eq!(rt; plain.clock(given(Forward, 1)), Some(0x0123_4567_89AB_CDF0));
+    assert_eq!(rt; line.clock(given(Forward, 7)), None);
+    let mut answers = [Some(5); 3];
+    flush(&mut plain, &mut answers);
+    assert_eq!(rt; answers[0], Some(5));
+    flush(&mut line, &mut answers);
+    let triple = Triple::new(Rotated, ADDED, CROSSED);
+    assert_eq!(rt; answers[0], None);
+    assert_eq!(rt; answers[1], Some(triple.forward(7)));
+    assert_eq!(rt; answers[2], Some(5));
 }

@@ -26,17 +26,17 @@ struct Counting<E> {
 impl<E: Engine> Engine for Counting<E> {
     const DEPTH: usize = E::DEPTH;
 
-    ghost DEPTH = { E.Engine.DEPTH };
-
     ghost machine = { λ e. E.Engine.machine e.inner };
 
     ghost undo = { Prim.search rules };
 
-    ghost deep = { Prim.search rules };
-
     ghost places = { Prim.search rules };
 
     ghost shallow = { Prim.search rules };
+
+    fn depth_of(&self) -> usize {
+        self.inner.depth_of()
+    }
 
     fn clock(&mut self, input: Option<Work>) -> Option<Block> {
         self.clocks = self.clocks.saturating_add(1);

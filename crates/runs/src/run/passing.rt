@@ -45,7 +45,7 @@ impl<E: Engine, W> Run<E, W> {
         ensures onward { of_run Onward E.Engine.machine self.old self.new 0 result 0 }
     {
         let mut given = 0;
-        for _ in 1..E::DEPTH {
+        for _ in 1..self.engine.depth_of() {
             given += self.pass(None, &mut out[given..]);
         }
         given
@@ -61,7 +61,7 @@ impl<E: Engine, W> Run<E, W> {
             return 0;
         };
         let mut given = 0;
-        for _ in 1..E::DEPTH {
+        for _ in 1..self.engine.depth_of() {
             if self.frame.pending.len() < distance {
                 return given;
             }

@@ -37,5 +37,5 @@ returns-clause-emptied g c =
     let run = c.args.self.now in
     let l = c.loop in
     let e : l.counter - 1 ≡ (mach run.engine).depth - 1 =
-    omega (arith, c.loop-test.false, l.auto.counter, l.auto.counter-end, c.DEPTH-end.ensures, g.met.E.Engine.deep run.engine, g.met.E.Engine.places run.engine) in
+    omega (arith, c.loop-test.false, l.auto.counter, l.auto.counter-end, c.depth_of-end.ensures, g.met.E.Engine.places run.engine) in
     subst (λ n. Idles (mach run.engine) (mach l.self.engine) run.frame l.self.frame n 0 l.given c.args.out.now l.out) e l.invariant.1

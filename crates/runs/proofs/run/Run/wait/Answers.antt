@@ -63,4 +63,4 @@ returns-clause-waited g c =
     let l = c.loop in
     λ ys given room left. waits_all (mach run.engine) (mach l.self.engine) run.frame l.self.frame (l.counter - 1) given (given + l.given) c.in-Some.distance
     ys _ (sym c.in-Some.ensures.value) (l.invariant.1 ys given room left) (l.invariant.2 ys given room left)
-    (omega (arith, c.loop-test.false, c.DEPTH-end.ensures, g.met.E.Engine.deep run.engine))
+    (omega (arith, c.loop-test.false, c.depth_of-end.ensures))
