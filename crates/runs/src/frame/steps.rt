@@ -1,5 +1,5 @@
 //! One unit's way into the engine and out of it.
-ghost use Rattle.std.specs.Prelude.{◌≡◌, ◌+◌, ◌<◌, ◌≤◌, length, Some};
+ghost use Rattle.std.specs.Prelude.{◌≡◌, ◌+◌, ◌<◌, ◌≤◌, length, drop, Some, slice_get};
 ghost use Rattle.engines.specs.Depths.{the_greatest_depth};
 ghost use Rattle.modes.specs.Table.{row};
 ghost use Rattle.runs.specs.Steps.{link_of, shift_from, pushed, counted, one_if};
@@ -10,11 +10,28 @@ use super::{Frame, Queue};
 use cipher::Block;
 use engines::work::Work;
 
+// Takes the oldest number out. The newest is handed from place to place up to the front, so that nothing is moved as a block: the
+// library for C needs no function for that. By index: a fold that puts each number in the place of the next would be no plainer. Out of
+// line: inside its callers it left the word of one key more on the stack of that library.
+#[inline(never)]
+fn take_oldest(queue: &mut Queue) -> Option<u64>
+    ensures value { result ≡ slice_get queue.old.items 0 }
+    ensures rest { queue.new.items ≡ drop 1 queue.old.items }
+{
+    let mut number = queue.pop()?;
+    for i in (0..queue.len()).rev() {
+        let older = queue[i];
+        queue[i] = number;
+        number = older;
+    }
+    Some(number)
+}
+
 // Takes the oldest number out of the chain, and puts one in at its end, where there is room then. A chain of none stays so.
 fn pass(chain: &mut Queue, number: u64)
     ensures { length chain.old.items < the_greatest_depth → chain.new.items ≡ pushed chain.old.items number }
 {
-    if chain.pop_at(0).is_some() {
+    if take_oldest(chain).is_some() {
         let _ = chain.try_push(number);
     }
 }
@@ -87,7 +104,7 @@ impl Frame {
         ensures count { self.new.taken ≡ self.old.taken }
     {
         let block = answer?;
-        let mask = self.pending.pop_at(0)?;
+        let mask = take_oldest(&mut self.pending)?;
         let unit = self.mode.leftmost(block) ^ mask;
         if self.mode.distance(self.way).is_some() {
             let link = self.course().fed_back(block, unit);
