@@ -1,5 +1,5 @@
 -- Bytes and units written behind others.
-use Rattle.std.proofs.Common.{◌≡◌, ℕ, ◌+◌, ◌-◌, ◌*◌, ◌/◌, ◌<◌, ◌≤◌, true, false, leb, List, [], ◌∷◌, ◌++◌, length, get_or, take, drop, Some, None, sym, ap, ◌∙◌, ap₂, append_assoc, append-nil, add-zero, add_assoc, div-lt_iff_lt-mul, mul-le-mul_left, zero-add, mul-suc, arith, length-append, length-drop}
+use Rattle.std.proofs.Common.{◌≡◌, ℕ, ◌+◌, ◌-◌, ◌*◌, ◌/◌, ◌<◌, ◌≤◌, true, false, leb, List, [], ◌∷◌, ◌++◌, length, get_or, take, drop, Some, None, sym, ap, ◌∙◌, ap₂, append_assoc, append-nil, add-zero, add_assoc, div-lt_iff_lt-mul, mul-le-mul_left, zero-add, arith, length-append, length-drop}
 use native.Mathlib.Nat.{mul-div-le}
 use borrow.Rule.Slice.PartMut.{put_mid}
 use Rattle.std.specs.List.{flat_map}

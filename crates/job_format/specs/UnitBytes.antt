@@ -1,5 +1,5 @@
 -- Units in bytes. A unit as wide as a block takes eight bytes, the highest first; a narrower one takes one byte.
-use Rattle.std.specs.Prelude.{◌≡◌, ℕ, ◌+◌, ◌-◌, ◌/◌, ◌%◌, ◌^◌, cond, List, [], ◌∷◌, ◌++◌, length, take, drop, Some, None, Option, nat_le, nat_lt}
+use Rattle.std.specs.Prelude.{◌≡◌, ℕ, ◌+◌, ◌-◌, ◌/◌, ◌%◌, ◌^◌, cond, List, [], ◌∷◌, ◌++◌, length, take, drop, Some, None, Option, nat_le, nat_lt, slice_index}
 use Rattle.std.specs.List.{flat_map}
 use Rattle.modes.specs.declared.mode.Mode.{Mode}
 use Rattle.modes.specs.Table.{row}
@@ -13,6 +13,10 @@ unit_size w = cond (nat_lt w 64) 1 8
 -- the whole units that lie in some bytes
 abbrev pub units_in : ℕ → List ℕ → List ℕ
 units_in w bytes = cond (nat_lt w 64) bytes (blocks_in (length bytes / 8) bytes)
+
+-- what stands at a place of a list, if it is that long
+abbrev pub place : List ℕ → ℕ → Option ℕ
+place us i = cond (nat_lt i (length us)) (Some (slice_index us i)) None
 
 -- the eight bytes of a number, the highest first
 abbrev pub eight_bytes : ℕ → List ℕ

@@ -60,3 +60,17 @@ impl<'a> UnitWriter<'a> {
         Ok(())
     }
 }
+
+/// Writes units one behind the other from an offset on, and answers the offset behind them; where there is not enough room for
+/// all, writes none.
+pub fn write_units(mode: Mode, units: &[u64], out: &mut [u8], at: usize) -> Option<usize>
+    ensures value { result ≡ written_end (row mode).width units.now out.old at }
+    ensures output { out.new ≡ units_written (row mode).width units.now out.old at }
+{
+    if at > out.len() {
+        return None;
+    }
+    let mut writer = UnitWriter { mode, out, end: at };
+    writer.write(units).ok()?;
+    Some(writer.written())
+}
