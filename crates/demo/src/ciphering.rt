@@ -1,5 +1,5 @@
 //! A record under triple DEA, block by block.
-use crate::blocks::{blocks_of, bytes_of};
+use crate::blocks::{Blocks, blocks_of, bytes_of};
 use crate::loading::load_bundle;
 use crate::shown::Text;
 use anyhow::Context;
@@ -25,7 +25,7 @@ pub fn show(rt: &(impl Print + AllocGlobal)) -> anyhow::Result<()> {
     let heap = rt.alloc();
     let triple = load_bundle(rt)?.into_cipher();
     println!(rt; "{}", Text(&RECORD))?;
-    let mut received = Vec::new(heap);
+    let mut received = Blocks::new();
     for (i, plain) in blocks_of(heap, &RECORD)?.iter().enumerate() {
         let sent = triple.forward(*plain);
         let back = triple.inverse(sent);
@@ -33,7 +33,7 @@ pub fn show(rt: &(impl Print + AllocGlobal)) -> anyhow::Result<()> {
             "block {}: {plain:016X} enciphered {sent:016X} deciphered {back:016X}",
             i + 1
         )?;
-        received.push(back)?;
+        received.try_push(back)?;
     }
     let received = bytes_of(heap, &received)?;
     println!(rt; "{}", Text(&received))?;

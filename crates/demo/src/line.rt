@@ -78,25 +78,18 @@ impl fmt::Display for Output {
     }
 }
 
-/// What the triple answers to the inputs, two cycles late.
-fn wanted(rt: &(impl Print + AllocGlobal)) -> anyhow::Result<Vec<Option<Block>>> {
-    let mut triple = load_plain(rt)?;
-    let mut wanted = vec![in rt.alloc(); None; 2]?;
-    for input in INPUTS {
-        wanted.push(triple.clock(input))?;
-    }
-    Ok(wanted)
-}
-
 /// The line of the example's three keys at work. For each cycle: what goes in, what then stands in each functional block, what comes
 /// out, and whether that is what the triple itself answered two cycles before.
-pub fn show(rt: &(impl Print + AllocGlobal)) -> anyhow::Result<()> {
+pub fn show(rt: &impl Print) -> anyhow::Result<()> {
     let mut line = load_line(rt)?;
-    let wanted = wanted(rt)?;
+    let mut triple = load_plain(rt)?;
+    let answers = INPUTS.map(|input| triple.clock(input));
+    // what is due of the line comes two cycles after the triple's answer
+    let wanted = [None; 2].into_iter().chain(answers);
     println!(rt;
         "    in                        first             second            third             out"
     )?;
-    for ((cycle, input), wanted) in INPUTS.iter().enumerate().zip(&wanted) {
+    for ((cycle, input), wanted) in INPUTS.iter().enumerate().zip(wanted) {
         let answer = line.clock(*input);
         println!(rt;
             "{:>2}  {}  {}  {}  {}  {}",
@@ -105,10 +98,7 @@ pub fn show(rt: &(impl Print + AllocGlobal)) -> anyhow::Result<()> {
             State(line.state(Stage::First)),
             State(line.state(Stage::Second)),
             State(line.state(Stage::Third)),
-            Output {
-                answer,
-                wanted: *wanted
-            }
+            Output { answer, wanted }
         )?;
     }
     Ok(())

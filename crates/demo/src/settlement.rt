@@ -5,6 +5,7 @@ use crate::records::RECORDS;
 use crate::shown::Text;
 use crate::transmission;
 use crate::transmission::Damage;
+use arrayvec::ArrayVec;
 use modes::order::Order;
 
 /// The interleaved chaining mode.
@@ -27,7 +28,7 @@ fn reads_right_from(file: &[u64], arrivals: &[Option<u64>]) -> usize {
 /// Each record beside what was received for it, with dots where a unit was lost.
 fn print_records(rt: &(impl Print + AllocGlobal), arrivals: &[Option<u64>]) -> anyhow::Result<()> {
     for (sent, units) in RECORDS.iter().zip(arrivals.chunks(3)) {
-        let received: Vec<u8> = units
+        let received: ArrayVec<u8, 24> = units
             .iter()
             .flat_map(|unit| unit.unwrap_or(0).to_be_bytes())
             .collect(rt.alloc())?;

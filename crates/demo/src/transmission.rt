@@ -1,7 +1,9 @@
 //! A settlement file on its way: enciphered on the line, damaged, and received on an engine of another depth.
 ghost use Rattle.std.specs.Prelude.{◌<◌};
 
+use crate::blocks::{Blocks, UNITS};
 use crate::loading::{load_line, load_plain};
+use arrayvec::ArrayVec;
 use engines::engine::Engine;
 use modes::mode::Mode;
 use modes::order::Order;
@@ -12,9 +14,6 @@ use runs::run::heading::{Receiving, Sending};
 use runs::run::{DecipheringRun, EncipheringRun, Run};
 use std::alloc::{AllocError, Global};
 use std::fmt;
-
-/// Places for what one call hands out.
-const PLACES: usize = 36;
 
 /// What a run tells, with what the formula for its cycles asks.
 #[derive(Clone, Copy)]
@@ -28,9 +27,9 @@ pub struct Accounts {
 }
 
 impl Accounts {
-    fn of<E: Engine, W>(run: &Run<E, W>, distance: Option<usize>) -> Accounts {
+    fn of<E: Engine, W>(run: &Run<E, W>, depth: usize, distance: Option<usize>) -> Accounts {
         Accounts {
-            depth: E::DEPTH,
+            depth,
             distance,
             taken: run.units_taken(),
             handed_out: run.units_handed_out(),
@@ -76,7 +75,7 @@ pub struct Damage {
 
 impl Damage {
     /// The units that arrive of those that are sent.
-    fn travel(&self, heap: Global, sent: &[u64]) -> Result<Vec<u64>, AllocError> {
+    fn travel(&self, heap: Global, sent: &[u64]) -> Result<Blocks, AllocError> {
         sent.iter()
             .enumerate()
             .filter(|(place, _)| *place != self.lost)
@@ -91,7 +90,11 @@ impl Damage {
     }
 
     /// What was received for each sent unit; none for the lost one.
-    pub fn arrivals(&self, heap: Global, received: &[u64]) -> Result<Vec<Option<u64>>, AllocError> {
+    pub fn arrivals(
+        &self,
+        heap: Global,
+        received: &[u64],
+    ) -> Result<ArrayVec<Option<u64>, UNITS>, AllocError> {
         let before = received.iter().take(self.lost);
         let after = received.iter().skip(self.lost);
         before
@@ -105,8 +108,8 @@ impl Damage {
 /// All that happened.
 #[derive(Drop)]
 pub struct Transmission {
-    pub sent: Vec<u64>,
-    pub received: Vec<u64>,
+    pub sent: Blocks,
+    pub received: Blocks,
     pub on_the_way: usize,
     pub sender: Accounts,
     pub receiver: Accounts,
@@ -116,12 +119,15 @@ pub struct Transmission {
 struct Ends<S, R> {
     sending: EncipheringRun<S>,
     receiving: DecipheringRun<R>,
+    // of the two engines, since a run gives its engine out nowhere
+    depths: [usize; 2],
     mode: Mode,
 }
 
 impl<S: Engine + Drop, R: Engine + Drop> Ends<S, R> {
     fn open(sender: S, receiver: R, order: Order) -> Self {
         Ends {
+            depths: [sender.depth_of(), receiver.depth_of()],
             sending: Cartridge::new(sender).start(order, Sending),
             receiving: Cartridge::new(receiver).start(order, Receiving),
             mode: order.mode(),
@@ -135,15 +141,20 @@ impl<S: Engine + Drop, R: Engine + Drop> Ends<S, R> {
         file: &[u64],
         damage: Damage,
     ) -> anyhow::Result<Transmission> {
-        let sent = pass(heap, &mut self.sending, file, 9)?;
+        let sent = pass(&mut self.sending, file, 9)?;
         let arriving = damage.travel(heap, &sent)?;
-        let received = pass(heap, &mut self.receiving, &arriving, 1)?;
+        let received = pass(&mut self.receiving, &arriving, 1)?;
+        let [sender, receiver] = self.depths;
         Ok(Transmission {
             sent,
             received,
             on_the_way: units_on_the_way(&self.sending, &self.receiving),
-            sender: Accounts::of(&self.sending, self.mode.distance(Way::Enciphering)),
-            receiver: Accounts::of(&self.receiving, self.mode.distance(Way::Deciphering)),
+            sender: Accounts::of(&self.sending, sender, self.mode.distance(Way::Enciphering)),
+            receiver: Accounts::of(
+                &self.receiving,
+                receiver,
+                self.mode.distance(Way::Deciphering),
+            ),
         })
     }
 
@@ -151,6 +162,7 @@ impl<S: Engine + Drop, R: Engine + Drop> Ends<S, R> {
         let Ends {
             sending,
             receiving,
+            depths: _,
             mode: _,
         } = self;
         drop(sending.close());
@@ -159,22 +171,17 @@ impl<S: Engine + Drop, R: Engine + Drop> Ends<S, R> {
 }
 
 /// Feeds units, so many at a time, and drains the run. Answers what is handed out.
-fn pass<E: Engine, W>(
-    heap: Global,
-    run: &mut Run<E, W>,
-    units: &[u64],
-    at_once: usize,
-) -> anyhow::Result<Vec<u64>>
+fn pass<E: Engine, W>(run: &mut Run<E, W>, units: &[u64], at_once: usize) -> anyhow::Result<Blocks>
     requires { 0 < at_once }
 {
-    let mut handed_out = Vec::new(heap);
-    let mut out = [0; PLACES];
+    let mut handed_out = Blocks::new();
+    let mut out = [0; UNITS];
     for part in units.chunks(at_once) {
         let count = run.feed(part, &mut out)?;
-        handed_out.extend_from_slice(&out[..count])?;
+        handed_out.try_extend_from_slice(&out[..count])?;
     }
     let count = run.drain(&mut out)?;
-    handed_out.extend_from_slice(&out[..count])?;
+    handed_out.try_extend_from_slice(&out[..count])?;
     Ok(handed_out)
 }
 

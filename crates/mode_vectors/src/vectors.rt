@@ -1,4 +1,5 @@
 //! A text through each mode.
+use arrayvec::ArrayVec;
 use cipher::dea::Dea;
 use cipher::triple::Triple;
 use engines::engine::{Engine, GREATEST_DEPTH};
@@ -37,8 +38,14 @@ const VALUES: [u8; 24] = [
 
 const TEXT: [u8; 56] = *b"Now is the time for all good men to come to the aid of t";
 
+/// The most units of a vector.
+const UNITS: usize = 16;
+
+// Nothing here needs memory beside the stack, and so nothing can run out of it.
+type Units = ArrayVec<u64, UNITS>;
+
 /// The text as units of the mode: seven blocks, the first twelve bytes, or the first sixteen bits.
-fn units_of(heap: Global, width: usize) -> Result<Vec<u64>, AllocError> {
+fn units_of(heap: Global, width: usize) -> Result<Units, AllocError> {
     match width {
         64 => TEXT
             .as_chunks()
@@ -61,19 +68,15 @@ fn units_of(heap: Global, width: usize) -> Result<Vec<u64>, AllocError> {
 
 // The demo has such a function with more units at a time: a crate that shares these few lines would be no plainer.
 /// Feeds units one by one, and drains the run. Answers what is handed out.
-fn feed_each<E: Engine>(
-    heap: Global,
-    run: &mut EncipheringRun<E>,
-    units: &[u64],
-) -> anyhow::Result<Vec<u64>> {
-    let mut handed_out = Vec::new(heap);
+fn feed_each<E: Engine>(run: &mut EncipheringRun<E>, units: &[u64]) -> anyhow::Result<Units> {
+    let mut handed_out = Units::new();
     let mut out = [0; GREATEST_DEPTH];
     for unit in units {
         let count = run.feed(&[*unit], &mut out)?;
-        handed_out.extend_from_slice(&out[..count])?;
+        handed_out.try_extend_from_slice(&out[..count])?;
     }
     let count = run.drain(&mut out)?;
-    handed_out.extend_from_slice(&out[..count])?;
+    handed_out.try_extend_from_slice(&out[..count])?;
     Ok(handed_out)
 }
 
@@ -99,23 +102,23 @@ impl fmt::Display for Hexadecimal<'_> {
 struct Vector {
     keys: [u64; 3],
     order: Order,
-    units: Vec<u64>,
+    units: Units,
 }
 
 impl Vector {
     /// The units sent on a new line.
-    fn send(&self, heap: Global) -> anyhow::Result<Vec<u64>> {
+    fn send(&self) -> anyhow::Result<Units> {
         let [first, second, third] = self.keys.map(Dea::new);
         let line = Line::new(first, second, third);
         let mut run = Cartridge::new(line).start(self.order, Sending);
-        let sent = feed_each(heap, &mut run, &self.units);
+        let sent = feed_each(&mut run, &self.units);
         drop(run.close());
         sent
     }
 
     /// What was sent, received on a new plain engine over the triple, in one feed.
-    fn receive(&self, heap: Global, sent: &[u64]) -> anyhow::Result<Vec<u64>> {
-        let mut received = vec![in heap; 0; sent.len()]?;
+    fn receive(&self, sent: &[u64]) -> anyhow::Result<Units> {
+        let mut received = Units::from([0; UNITS]);
         let [first, second, third] = self.keys.map(Dea::new);
         let plain = Plain::new(Triple::new(first, second, third));
         let mut run = Cartridge::new(plain).start(self.order, Receiving);
@@ -125,10 +128,10 @@ impl Vector {
         Ok(received)
     }
 
-    fn show(&self, rt: &(impl Print + AllocGlobal)) -> anyhow::Result<()> {
+    fn show(&self, rt: &impl Print) -> anyhow::Result<()> {
         let mode = self.order.mode();
-        let sent = self.send(rt.alloc())?;
-        let received = self.receive(rt.alloc(), &sent)?;
+        let sent = self.send()?;
+        let received = self.receive(&sent)?;
         println!(rt;
             "{} {}:{}, received again: {}",
             mode.code(),
