@@ -3,12 +3,16 @@ use std::alloc::{AllocError, Global};
 
 /// The bytes that the capital digits of a text give. Other characters are passed over.
 pub fn bytes_of(heap: Global, text: &str) -> Result<Vec<u8>, AllocError> {
-    let digits: Vec<u8> = text.bytes().filter_map(digit_value).collect(heap)?;
-    let (pairs, _) = digits.as_slice().as_chunks::<2>();
-    pairs
-        .iter()
-        .map(|[high, low]| *high << 4 | *low)
-        .collect(heap)
+    let mut bytes = Vec::new(heap);
+    let mut first = None;
+    // in one pass: a list of the digits beside the bytes would take twice their room again
+    for digit in text.bytes().filter_map(digit_value) {
+        match first.take() {
+            None => first = Some(digit),
+            Some(high) => bytes.push(high << 4 | digit)?,
+        }
+    }
+    Ok(bytes)
 }
 
 // By hand, since the library's to_digit takes small letters too.

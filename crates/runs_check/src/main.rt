@@ -11,20 +11,27 @@ use driving::drive;
 use engines::line::Line;
 use engines::plain::Plain;
 use engines_tests::numbers::Numbers;
-use std::array;
+use refusals::Refusal;
+use std::{array, io};
 
 /// How many cartridges there are, each with its list of calls.
 const LISTS: u32 = 400;
 
-fn main(rt: HostRuntime) -> anyhow::Result<()> {
+// Only a drawn opening could be refused, and each is drawn to be taken.
+fn opening_refused(_: Refusal) -> io::Error {
+    io::Error::other("a drawn opening is refused")
+}
+
+fn main(rt: HostRuntime) -> io::Result<()> {
     let mut numbers = Numbers::new(2026);
     for list in 0..LISTS {
         let tally = if list % 2 == 0 {
-            drive(Plain::new(Dea::new(numbers.draw())), &mut numbers)?
+            drive(Plain::new(Dea::new(numbers.draw())), &mut numbers)
         } else {
             let [first, second, third]: [Dea; 3] = array::from_fn(|_| Dea::new(numbers.draw()));
-            drive(Line::new(first, second, third), &mut numbers)?
-        };
+            drive(Line::new(first, second, third), &mut numbers)
+        }
+        .map_err(opening_refused)?;
         println!(&rt; "list {list}: {tally}")?;
     }
     Ok(())
